@@ -1,0 +1,5 @@
+pub mod Contents
+pub mod Due
+pub mod MainRead
+pub mod Room
+pub mod Tally

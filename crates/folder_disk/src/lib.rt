@@ -1,0 +1,12 @@
+//! The folder that holds the settings: its main file, the scratch file beside it, and what a machine
+//! stop may leave. It stands on `store_traits`.
+//! The one contract above it is the trait `Folder`: what each call does to the three, and why it fails.
+#![tactic(auto)]
+
+mod call;
+mod folder;
+mod main_read;
+
+pub use call::{CallCounts, FolderCall, Planned};
+pub use folder::Folder;
+pub use main_read::{MainRead, ReadMainError};
