@@ -1,0 +1,51 @@
+ghost use Rattle.std.specs.Prelude.{◌≡◌, ◌≤◌, ◌<◌, ℕ, List, length, MatchResult, string_bytes};
+ghost use Rattle.prefs_model.specs.Map.{IsKey};
+
+use std::marker::Model;
+use thiserror::Error;
+
+/// How many bytes a key has at the most.
+pub const MAX_KEY_LEN: usize = 1024;
+
+/// The name of a setting: a text of at most 1,024 bytes. Clauses see its bytes.
+#[derive(Drop)]
+pub struct PrefKey {
+    text: String,
+}
+
+/// A text is too long for a key: it has `len` bytes.
+#[derive(Clone, Copy, Debug, PartialEq, Eq, Error)]
+#[error("a key of {len} bytes is too long")]
+pub struct KeyTooLong {
+    pub len: u64,
+}
+
+impl Model for PrefKey {
+    ghost use Rattle.std.specs.Prelude.{List, ℕ, string_bytes, length, ◌≤◌};
+
+    ghost Value = { List ℕ };
+
+    ghost view = { λ k. string_bytes k.text };
+
+    ghost invariant = { λ k. length (string_bytes k.text) ≤ 1024 };
+}
+
+impl PrefKey {
+    /// Takes no memory. Refuses exactly the texts of more than 1,024 bytes.
+    pub fn new(text: String) -> Result<PrefKey, KeyTooLong>
+        ensures { MatchResult result (λ key. key ≡ string_bytes text) (λ e. (e.len ≡ length (string_bytes text)) × (1024 < e.len)) }
+    {
+        let len = text.len();
+        if len > MAX_KEY_LEN {
+            return Err(KeyTooLong { len: len as u64 });
+        }
+        Ok(PrefKey { text })
+    }
+
+    pub fn as_str(&self) -> &str
+        ensures value { result.now ≡ self.now }
+        ensures key { IsKey self.now }
+    {
+        self.text.as_str()
+    }
+}
