@@ -1,0 +1,15 @@
+-- The value is there already, so main and the map stay.
+use Rattle.prefs_tool.proofs.SetLemmas.{kept, synced_since}
+use Rattle.prefs_tool.proofs.set.set.Goals as goal
+
+pub returns-then-has : goal.returns-then-has
+returns-then-has g c =
+    let contents = g.F.Folder.contents in
+    let tally = g.F.Folder.tally in
+    let old = c.args.folder.now in
+    let middle = c.read_map.new.folder in
+    let new = c.sync.new.folder in
+    kept g.F.Folder.told (contents old) (contents new) (tally old) (tally new) c.in_ok-map.map c.args.key c.args.value c.sync.result
+    c.in_ok-map.ensures.read (c.has.ensures.0 c.if-has.true)
+    (synced_since g.F.Folder.told (contents old) (contents middle) (contents new) (tally old) (tally middle) (tally new) c.sync.result
+    c.read_map.ensures.contents c.read_map.ensures.later c.sync.ensures)

@@ -1,0 +1,7 @@
+pub mod Append
+pub mod Command
+pub mod Faults
+pub mod Outcome
+pub mod Reading
+pub mod Replacing
+pub mod Status

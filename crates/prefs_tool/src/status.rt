@@ -1,0 +1,35 @@
+ghost use Rattle.std.specs.Prelude.{◌≡◌};
+ghost use Rattle.prefs_tool.specs.Status.{code_of};
+
+/// How a command ended.
+#[derive(Clone, Copy, Debug, PartialEq, Eq)]
+pub enum Status {
+    /// All went well.
+    Done,
+    /// The words are no command.
+    Words,
+    /// The folder failed.
+    Storage,
+    /// Main reads as no map, or is longer than a file may be.
+    Corrupt,
+    /// The new text would be longer than a file may be.
+    Refused,
+    /// There was not enough memory.
+    NoMemory,
+}
+
+impl Status {
+    /// The exit status of the program, from 0 to 8.
+    pub fn code(self) -> u8
+        ensures { result ≡ code_of self }
+    {
+        match self {
+            Status::Done => 0,
+            Status::Words => 1,
+            Status::Storage => 3,
+            Status::Corrupt => 4,
+            Status::Refused => 5,
+            Status::NoMemory => 8,
+        }
+    }
+}
