@@ -1,0 +1,4 @@
+pub mod Memory
+pub mod ReadAll
+pub mod Sink
+pub mod Source
