@@ -4,8 +4,11 @@
 #![tactic(auto)]
 
 mod call;
+mod fault_plan;
 mod folder;
 mod main_read;
+mod mains;
+mod mem_scratch;
 
 pub use call::{CallCounts, FolderCall, Planned};
 pub use folder::Folder;
