@@ -2,6 +2,7 @@ pub mod Contents
 pub mod Due
 pub mod MainRead
 pub mod Mains
+pub mod MemFolder
 pub mod MemScratch
 pub mod Planned
 pub mod Room

@@ -8,8 +8,10 @@ mod fault_plan;
 mod folder;
 mod main_read;
 mod mains;
+mod mem_folder;
 mod mem_scratch;
 
 pub use call::{CallCounts, FolderCall, Planned};
 pub use folder::Folder;
 pub use main_read::{MainRead, ReadMainError};
+pub use mem_folder::MemFolder;

@@ -1,4 +1,4 @@
-ghost use Rattle.std.specs.Prelude.{◌≡◌, ◌≤◌, ◌+◌, ◌-◌, ◌++◌, [], IsTrue, OnOk, OnErr, length, vec_len};
+ghost use Rattle.std.specs.Prelude.{◌≡◌, ◌≤◌, ◌+◌, ◌-◌, ◌++◌, [], max, OnOk, OnErr, length, vec_len};
 ghost use Rattle.std.specs.Vec.{vec_capacity};
 ghost use Rattle.folder_disk.specs.Contents.{Unsynced, Synced, Gone, IsThere, scratch_bytes};
 ghost use Rattle.folder_disk.specs.MemScratch.{ScratchSeen, scratch_of, is_on_disk};
@@ -44,14 +44,29 @@ impl MemScratch {
         }
     }
 
-    /// Takes the memory for `len` bytes.
+    /// For how many bytes there is memory.
+    pub(crate) fn room(&self) -> u64
+        ensures { result ≡ self.now.room }
+    {
+        self.room
+    }
+
+    /// Takes the memory for `len` bytes, where it is not there.
     pub(crate) fn make_room(&mut self, len: u64) -> Result<(), AllocError>
-        ensures ok { OnOk result (self.new ≡ record self.old { room = len }) }
+        ensures ok { OnOk result (self.new ≡ record self.old { room = max self.old.room len }) }
         ensures err { OnErr result (self.new ≡ self.old) }
     {
         self.bytes.reserve(len as usize)?;
-        self.room = len;
+        self.room = self.room.max(len);
         Ok(())
+    }
+
+    /// Counts on memory for so many bytes alone.
+    pub(crate) fn lower_room(&mut self, room: u64)
+        requires { room ≤ self.old.room }
+        ensures { self.new ≡ record self.old { room = room } }
+    {
+        self.room = room;
     }
 
     pub(crate) fn create(&mut self)
