@@ -54,10 +54,11 @@ left_when_struck call made [] struck fits = cc
 left_when_struck call made (p ∷ planned) struck fits =
     let fits_now : count_of made call ≤ 2 ^ 64 - 1 = omega arith in
     elim (or_cases _ _ struck) [
-      inl here ↦ (let e = here_struck call made p here fits in
-                  let rest = left_when_passed call made planned fits_now in omega arith)
+      | inl here ↦ (let e = here_struck call made p here fits in
+          let rest = left_when_passed call made planned fits_now in omega arith)
       | inr later ↦ (let e = left_when_struck call made planned later fits in
-                  let here = left_less _ _ p.number (count_of-counted call p.call made fits_now) in omega arith) ]
+          let here = left_less _ _ p.number (count_of-counted call p.call made fits_now) in omega arith)
+    ]
 
 pub left_at_most : (made : CallCounts) (planned : List Planned) → left_to_strike made planned ≤ length planned
 unfolding left_to_strike

@@ -13,6 +13,8 @@ mod mains;
 mod mem_folder;
 mod mem_scratch;
 mod std_folder;
+#[cfg(test)]
+mod tests;
 
 pub use call::{CallCounts, FolderCall, Planned};
 pub use folder::Folder;

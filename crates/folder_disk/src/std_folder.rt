@@ -89,6 +89,15 @@ impl<R: Files + Drop> StdFolder<R> {
             None => Err(io::ErrorKind::NotFound.into()),
         }
     }
+
+    // Once it is main, the scratch file is closed, so that nothing more is written to it.
+    fn rename(&mut self) -> io::Result<()>
+        ensures { self.new ≡ self.old }
+    {
+        fs::rename(&self.rt, self.paths.scratch, self.paths.main)?;
+        self.scratch = None;
+        Ok(())
+    }
 }
 
 // Brings the names in a folder to the disk.
@@ -138,7 +147,7 @@ impl<R: Files + Drop> Folder for StdFolder<R> {
     }
 
     fn rename_scratch(&mut self) -> Result<(), Failed> {
-        let outcome = fs::rename(&self.rt, self.paths.scratch, self.paths.main);
+        let outcome = self.rename();
         self.faults.answer(outcome)
     }
 
