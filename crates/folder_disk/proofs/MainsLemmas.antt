@@ -1,5 +1,5 @@
 -- What a rename makes of the mains of a folder in memory.
-use Rattle.std.proofs.Common.{◌≡◌, ◌≤◌, ◌<◌, ◌+◌, ◌||◌, not, true, false, Bool, List, [], ◌∷◌, ◌++◌, ℕ, refl, arith, length, Some, ap, add-one, map, zero, suc}
+use Rattle.std.proofs.Common.{◌≡◌, ◌≤◌, ◌<◌, ◌+◌, ◌||◌, not, true, false, Bool, List, [], ◌∷◌, ◌++◌, ℕ, refl, arith, length, Some, ap, zero, suc}
 use Rattle.std.specs.Prelude.{slice_get}
 use Rattle.std.proofs.lemmas.List.{map-append}
 use Rattle.folder_disk.specs.declared.main_read.MainRead.{MainRead}
@@ -7,7 +7,6 @@ use Rattle.folder_disk.specs.declared.main_read.MainRead.TheVariants.{Bytes}
 use Rattle.folder_disk.specs.declared.mains.FirstMain.{FirstMain}
 use Rattle.folder_disk.specs.declared.mains.FirstMain.TheVariants.{Now, Older, Aside}
 use Rattle.folder_disk.specs.Contents.{Images}
-use Rattle.folder_disk.specs.MainRead.{main_of}
 use Rattle.folder_disk.specs.Mains.{kept_of, kept_by_move, first_of, first_bound, once_replaced, found_main}
 
 pub get_last : {X : Type 0} (xs : List X) (x : X) → slice_get (xs ++ x ∷ []) (length xs) ≡ Some x

@@ -3,7 +3,6 @@ use Rattle.std.specs.Prelude.{ℕ, ◌≡◌, ◌-◌, ◌^◌, min, true, List,
 use Rattle.folder_disk.specs.declared.call.Planned.{Planned}
 use Rattle.folder_disk.specs.declared.mem_folder.MemFolder.{MemFolder}
 use Rattle.folder_disk.specs.Contents.{Contents, Gone, Images}
-use Rattle.folder_disk.specs.Due.{Due}
 use Rattle.folder_disk.specs.Planned.{no_calls}
 use Rattle.folder_disk.specs.Room.{Room}
 use Rattle.folder_disk.specs.Tally.{Tally}

@@ -98,8 +98,8 @@ impl Mains {
         Ok(())
     }
 
-    #[tactic(auto, using(crate::proofs::MainsLemmas::first_once_replaced, crate::proofs::MainsLemmas::kept_once_replaced, crate::proofs::MainsLemmas::bound_once_replaced))]
     /// Makes these bytes main, which were brought to the disk or not.
+    #[tactic(auto, using(crate::proofs::MainsLemmas::first_once_replaced, crate::proofs::MainsLemmas::kept_once_replaced, crate::proofs::MainsLemmas::bound_once_replaced))]
     pub(crate) fn replace(&mut self, bytes: FileBytes, is_synced: bool)
         requires { 1 ≤ self.old.renames }
         ensures { self.new ≡ record self.old { main = Some bytes; kept = kept_by_move is_synced bytes self.old.kept; renames = self.old.renames - 1 } }

@@ -1,8 +1,8 @@
 use crate::std_folder::Paths;
 use crate::{Folder, FolderCall, MainRead, MemFolder, Planned, ReadMainError, StdFolder};
 use std::alloc::{AllocError, Global};
-use std::fs;
 use std::test::Fail;
+use std::{fs, io};
 use store_traits::{Failed, FileBytes};
 
 const REAL: Paths = Paths {
@@ -25,24 +25,51 @@ fn write<F: Folder>(folder: &mut F, alloc: Global, bytes: &[u8]) -> Result<(), F
     folder.sync_folder()
 }
 
-fn file(alloc: Global, bytes: &[u8]) -> Result<MainRead, AllocError> {
-    Ok(MainRead::Bytes(FileBytes::new(bytes.to_vec(alloc)?)))
+// Whether one whole write is made, and the count of faults after it.
+fn after_write<F: Folder>(folder: &mut F, alloc: Global, bytes: &[u8]) -> (bool, u64) {
+    let is_written = write(folder, alloc, bytes).is_ok();
+    (is_written, folder.faults())
 }
 
-// What a read within `limit` gave, as text.
-fn read<F: Folder>(folder: &mut F, alloc: Global, limit: u64) -> Result<String, AllocError> {
+fn read_is<F: Folder>(folder: &mut F, alloc: Global, limit: u64, wanted: &[u8]) -> bool {
     match folder.read_main(alloc, limit) {
-        Ok(MainRead::Absent) => String::from_str(alloc, "absent"),
-        Ok(MainRead::Bytes(bytes)) => format!(in alloc; "{:?}", bytes.as_slice()),
-        Err(error) => format!(in alloc; "{error:?}"),
+        Ok(MainRead::Bytes(bytes)) => bytes.as_slice() == wanted,
+        Ok(MainRead::Absent) | Err(_) => false,
+    }
+}
+
+fn read_error<F: Folder>(folder: &mut F, alloc: Global, limit: u64) -> Option<ReadMainError> {
+    folder.read_main(alloc, limit).err()
+}
+
+fn is_absent<F: Folder>(folder: &mut F, alloc: Global) -> bool {
+    match folder.read_main(alloc, 0) {
+        Ok(MainRead::Absent) => true,
+        Ok(MainRead::Bytes(_)) | Err(_) => false,
     }
 }
 
 fn needs_send<T: Send + Drop>(_value: T) {}
 
+// A folder with the main file "old", where the call with this number fails.
+fn failing(alloc: Global, call: FolderCall, number: u32) -> Result<MemFolder, AllocError> {
+    let main = MainRead::Bytes(FileBytes::new(b"old".to_vec(alloc)?));
+    MemFolder::new(alloc, main, vec![in alloc; Planned { call, number }]?)
+}
+
+// Whether this call strikes the first of two writes alone, which leaves `main`.
+fn strikes_once(alloc: Global, call: FolderCall, main: &[u8]) -> Result<bool, AllocError> {
+    let mut folder = failing(alloc, call, 1)?;
+    let first = after_write(&mut folder, alloc, b"new");
+    let is_kept = folder.main() == Some(main);
+    let second = after_write(&mut folder, alloc, b"next");
+    let is_next = folder.main() == Some(b"next".as_slice());
+    needs_send(folder);
+    Ok(first == (false, 1) && is_kept && second == (true, 1) && is_next)
+}
+
 #[test]
 fn each_planned_failure_strikes_once(rt: HostRuntime) -> Result<(), Fail> {
-    let alloc = rt.alloc();
     let rows = [
         (FolderCall::Create, b"old"),
         (FolderCall::Append, b"old"),
@@ -51,79 +78,56 @@ fn each_planned_failure_strikes_once(rt: HostRuntime) -> Result<(), Fail> {
         (FolderCall::SyncFolder, b"new"),
     ];
     for (call, main) in rows {
-        let failing = vec![in alloc; Planned { call, number: 1 }]?;
-        let mut folder = MemFolder::new(alloc, file(alloc, b"old")?, failing)?;
-        assert!(rt; write(&mut folder, alloc, b"new").is_err(), "{call:?}");
-        assert_eq!(rt; folder.main(), Some(main.as_slice()), "{call:?}");
-        assert_eq!(rt; folder.faults(), 1, "{call:?}");
-        assert!(rt; write(&mut folder, alloc, b"next").is_ok(), "{call:?}");
-        assert_eq!(rt; folder.main(), Some(b"next".as_slice()), "{call:?}");
-        assert_eq!(rt; folder.faults(), 1, "{call:?}");
-        needs_send(folder);
+        assert!(rt; strikes_once(rt.alloc(), call, main)?, "{call:?}");
     }
     Ok(())
 }
 
 #[test]
 fn reads_main_up_to_the_limit(rt: HostRuntime) -> Result<(), Fail> {
-    let alloc = rt.alloc();
-    let second = Planned {
-        call: FolderCall::ReadMain,
-        number: 2,
-    };
-    let mut folder = MemFolder::new(alloc, file(alloc, b"old")?, vec![in alloc; second]?)?;
-    let rows = [
-        (3, "[111, 108, 100]"),
-        (2, "Failed"),
-        (2, "TooLong { len: 3 }"),
-        (4, "[111, 108, 100]"),
-    ];
-    for (limit, answer) in rows {
-        assert_eq!(rt;
-            read(&mut folder, alloc, limit)?.as_str(),
-            answer,
-            "at {limit}"
-        );
-    }
+    let mut folder = failing(rt.alloc(), FolderCall::ReadMain, 2)?;
+    assert!(rt; read_is(&mut folder, rt.alloc(), 3, b"old"));
+    let struck = read_error(&mut folder, rt.alloc(), 2);
+    assert_eq!(rt; struck, Some(ReadMainError::Failed));
+    let too_long = read_error(&mut folder, rt.alloc(), 2);
+    assert_eq!(rt; too_long, Some(ReadMainError::TooLong { len: 3 }));
     assert_eq!(rt; folder.faults(), 1);
-    let mut none = MemFolder::new(alloc, MainRead::Absent, Vec::new(alloc))?;
-    assert_eq!(rt; read(&mut none, alloc, 0)?.as_str(), "absent");
     Ok(())
+}
+
+// A real folder with nothing but a stale scratch file.
+fn real_folder(rt: &HostRuntime) -> io::Result<StdFolder<HostRuntime>> {
+    let _ = fs::remove_dir_all(rt, REAL.folder);
+    fs::create_dir(rt, REAL.folder)?;
+    fs::write(rt, REAL.scratch, "a stale scratch file")?;
+    Ok(StdFolder::at(rt.clone()?, REAL))
+}
+
+// Whether two writes are made in a folder with no main, and the second is what is read.
+fn replaces_main<F: Folder>(folder: &mut F, alloc: Global) -> bool {
+    let was_absent = is_absent(folder, alloc);
+    let first = after_write(folder, alloc, b"first");
+    let second = after_write(folder, alloc, b"two");
+    let is_read = read_is(folder, alloc, 3, b"two");
+    was_absent && first == (true, 0) && second == (true, 0) && is_read
+}
+
+fn put_folder_for_main(rt: &HostRuntime) -> io::Result<()> {
+    fs::remove_file(rt, REAL.main)?;
+    fs::create_dir(rt, REAL.main)
 }
 
 #[test]
 fn writes_and_reads_a_real_folder(rt: HostRuntime) -> Result<(), Fail> {
-    let alloc = rt.alloc();
-    let _ = fs::remove_dir_all(&rt, REAL.folder);
-    fs::create_dir(&rt, REAL.folder)?;
-    let mut folder = StdFolder::at(rt.clone()?, REAL);
-    assert_eq!(rt; read(&mut folder, alloc, 9)?.as_str(), "absent");
-    fs::write(&rt, REAL.scratch, b"a stale scratch file".as_slice())?;
-    assert!(rt; write(&mut folder, alloc, b"first").is_ok());
-    assert_eq!(rt;
-        read(&mut folder, alloc, 5)?.as_str(),
-        "[102, 105, 114, 115, 116]"
-    );
-    assert!(rt; write(&mut folder, alloc, b"two").is_ok());
-    assert_eq!(rt; fs::read_to_string(&rt, REAL.main)?.as_str(), "two");
+    let mut folder = real_folder(&rt)?;
+    assert!(rt; replaces_main(&mut folder, rt.alloc()));
     assert!(rt; !fs::exists(&rt, REAL.scratch)?);
-    assert_eq!(rt; read(&mut folder, alloc, 2)?.as_str(), "TooLong { len: 3 }");
-    assert!(rt;
-        folder.append_scratch(b"more").is_err(),
-        "no scratch file is open"
-    );
+    let too_long = read_error(&mut folder, rt.alloc(), 2);
+    assert_eq!(rt; too_long, Some(ReadMainError::TooLong { len: 3 }));
+    put_folder_for_main(&rt)?;
+    let no_file = read_error(&mut folder, rt.alloc(), 9);
+    assert_eq!(rt; no_file, Some(ReadMainError::Failed));
     assert_eq!(rt; folder.faults(), 1);
-    assert_eq!(rt; read(&mut folder, alloc, 3)?.as_str(), "[116, 119, 111]");
-    fs::remove_file(&rt, REAL.main)?;
-    fs::create_dir(&rt, REAL.main)?;
-    assert_eq!(rt;
-        read(&mut folder, alloc, 9)?.as_str(),
-        "Failed",
-        "a folder is no file"
-    );
-    assert!(rt; write(&mut folder, alloc, b"lost").is_err());
-    assert_eq!(rt; folder.faults(), 3);
-    needs_send(folder);
     fs::remove_dir_all(&rt, REAL.folder)?;
     Ok(())
 }
