@@ -1,5 +1,5 @@
 -- The folder model: the main file, the scratch file beside it, and what a machine stop may leave as main.
-use Rattle.std.specs.Prelude.{ℕ, ◌≡◌, ◌↔◌, Bool, IsTrue, List, [], ◌∷◌, ◌++◌, Option, Some, None}
+use Rattle.std.specs.Prelude.{ℕ, ◌≡◌, ◌↔◌, Bool, IsTrue, List, [], ◌∷◌, ◌++◌, Option, Some}
 
 -- the scratch file: none, or bytes that are on the disk or not
 pub data Scratch : Type 0 where

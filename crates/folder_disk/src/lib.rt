@@ -4,9 +4,20 @@
 #![tactic(auto)]
 
 mod call;
+mod fault_count;
+mod fault_plan;
 mod folder;
+mod main_file;
 mod main_read;
+mod mains;
+mod mem_folder;
+mod mem_scratch;
+mod std_folder;
+#[cfg(test)]
+mod tests;
 
 pub use call::{CallCounts, FolderCall, Planned};
 pub use folder::Folder;
 pub use main_read::{MainRead, ReadMainError};
+pub use mem_folder::MemFolder;
+pub use std_folder::StdFolder;
