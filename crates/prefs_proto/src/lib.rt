@@ -3,6 +3,11 @@
 //! Its one contract above is that a map has one text, `encoded`, and that what is read is that text.
 #![tactic(auto)]
 
+mod field;
+mod pair;
 mod prefs_codec;
+mod tag;
+mod value;
+mod varint;
 
 pub use prefs_codec::PrefsCodec;
