@@ -2,10 +2,12 @@
 //! The one contract above it is that a map is a list of pairs whose keys rise strictly.
 #![tactic(auto)]
 
+mod keyed;
 mod pref_key;
 mod pref_map;
 mod pref_pair;
 mod pref_value;
+mod sorted;
 
 pub use pref_key::{KeyTooLong, PrefKey};
 pub use pref_map::PrefMap;

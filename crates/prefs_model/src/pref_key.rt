@@ -1,6 +1,7 @@
-ghost use Rattle.std.specs.Prelude.{◌≡◌, ◌≤◌, ◌<◌, ℕ, List, length, MatchResult, string_bytes};
+ghost use Rattle.std.specs.Prelude.{◌≡◌, ◌≤◌, ◌<◌, ◌↔◌, ℕ, List, length, IsTrue, IfOk, MatchResult, string_bytes};
 ghost use Rattle.prefs_model.specs.Map.{IsKey};
 
+use std::alloc::{AllocError, Global};
 use std::marker::Model;
 use thiserror::Error;
 
@@ -47,5 +48,20 @@ impl PrefKey {
         ensures key { IsKey self.now }
     {
         self.text.as_str()
+    }
+
+    /// Whether both are the same text.
+    pub fn equal(&self, other: &PrefKey) -> bool
+        ensures { IsTrue result ↔ (self.now ≡ other.now) }
+    {
+        self.as_str() == other.as_str()
+    }
+
+    /// An equal key.
+    pub fn try_clone(&self, alloc: Global) -> Result<PrefKey, AllocError>
+        ensures { IfOk result (λ key. key ≡ self.now) }
+    {
+        let text = String::from_str(alloc, self.as_str())?;
+        Ok(PrefKey { text })
     }
 }

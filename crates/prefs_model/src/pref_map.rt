@@ -1,6 +1,8 @@
-ghost use Rattle.std.specs.Prelude.{◌≡◌, [], OnOk, OnErr};
-ghost use Rattle.prefs_model.specs.Map.{IsMap, with_value};
+ghost use Rattle.std.specs.Prelude.{◌≡◌, [], OnOk, OnErr, IsOk, IsSome, IfOk, IfErr, option_copied};
+ghost use Rattle.prefs_model.specs.Rising.{IsAt, IsGapFor};
+ghost use Rattle.prefs_model.specs.Map.{IsMap, IsKey, key_of, value_at, with_value};
 
+use crate::sorted;
 use crate::{PrefKey, PrefPair, PrefValue};
 use std::alloc::{AllocError, Global};
 use std::marker::Model;
@@ -41,11 +43,23 @@ impl PrefMap {
         &self.pairs
     }
 
-    /// Gives the key this value. A refusal leaves the map as it was.
+    /// The value at the key, if there is one.
+    pub fn get(&self, key: &PrefKey) -> Option<&PrefValue>
+        ensures { option_copied result ≡ value_at self.now key.now }
+    {
+        match sorted::search(&self.pairs, key.as_str()) {
+            Ok(place) => Some(&self.pairs[place].value),
+            Err(_) => None,
+        }
+    }
+
+    /// Gives the key this value. Only a new key takes memory. A refusal leaves the map as it was.
     pub fn set(&mut self, key: PrefKey, value: PrefValue) -> Result<(), AllocError>
         ensures ok { OnOk result (self.new ≡ with_value self.old key value) }
         ensures err { OnErr result (self.new ≡ self.old) }
+        ensures overwrite_succeeds { IsSome (value_at self.old key) → IsOk result }
     {
-        Err(AllocError)
+        let _ = key.as_str();
+        sorted::insert(&mut self.pairs, PrefPair { key, value })
     }
 }
