@@ -1,2 +1,7 @@
+pub mod Encodings
+pub mod Fields
+pub mod Fronts
+pub mod Pairs
 pub mod Rows
-pub mod VarintLemmas
+pub mod Values
+pub mod Varints

@@ -1,4 +1,4 @@
-ghost use Rattle.std.specs.Prelude.{◌≡◌, ◌+◌, ◌<◌, ◌^◌, ◌∷◌, ◌++◌, length, OnOk};
+ghost use Rattle.std.specs.Prelude.{◌≡◌, ◌+◌, ◌<◌, ◌≤◌, ◌^◌, ◌∷◌, ◌++◌, length, OnOk, IfSome};
 ghost use Rattle.prefs_proto.specs.Varint.{varint};
 ghost use Rattle.prefs_proto.specs.Encoded.{field};
 ghost use Rattle.prefs_proto.specs.Reading.{Gives, field_at};
@@ -10,7 +10,8 @@ use std::alloc::AllocError;
 /// How many bytes a field takes whose content has `len` bytes: its tag, the length and the content.
 pub fn field_len(len: u64) -> u64
     requires { len < 2 ^ 63 }
-    ensures { result ≡ 1 + length (varint len) + len }
+    ensures len { result ≡ 1 + length (varint len) + len }
+    ensures few { result ≤ len + 11 }
 {
     1 + varint_len(len) + len
 }
@@ -35,7 +36,8 @@ pub fn put_field(out: &mut Vec<u8>, tag: u8, content: &[u8]) -> Result<(), Alloc
 /// The content of the field at the front, and the bytes behind it.
 #[tactic(auto, unfolding(crate::specs::Reading::field_at))]
 pub fn read_field(tag: u8, bytes: &[u8]) -> Option<(&[u8], &[u8])>
-    ensures { Gives (λ x. (x.0.now, x.1.now)) result (field_at tag bytes.now) }
+    ensures read { Gives (λ x. (x.0.now, x.1.now)) result (field_at tag bytes.now) }
+    ensures rest { IfSome result (λ x. length x.1.now < length bytes.now) }
 {
     let rest = read_tag(tag, bytes)?;
     let (len, rest) = read_varint(rest)?;

@@ -3,7 +3,9 @@
 //! Its one contract above is that a map has one text, `encoded`, and that what is read is that text.
 #![tactic(auto)]
 
+mod candidate;
 mod field;
+mod map_text;
 mod pair;
 mod prefs_codec;
 mod tag;

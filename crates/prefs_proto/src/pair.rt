@@ -1,4 +1,4 @@
-ghost use Rattle.std.specs.Prelude.{◌≡◌, ◌≤◌, ◌++◌, length, OnOk, IfSome};
+ghost use Rattle.std.specs.Prelude.{◌≡◌, ◌<◌, ◌≤◌, ◌++◌, length, OnOk, IfSome};
 ghost use Rattle.prefs_proto.specs.ValueText.{IsValue};
 ghost use Rattle.prefs_proto.specs.Encoded.{entry_text, pair_text};
 ghost use Rattle.prefs_proto.specs.Reading.{Gives, pair_at};
@@ -9,8 +9,8 @@ use crate::value::{put_value, read_value, value_len};
 use prefs_model::{PrefPair, PrefValue};
 use std::alloc::AllocError;
 
-/// How many bytes an entry has behind its tag and its length: at most 1,041.
-#[tactic(auto, unfolding(crate::specs::Encoded::entry_text))]
+/// How many bytes an entry has behind its tag and its length.
+#[tactic(auto, using(crate::proofs::Fields::lengths), unfolding(crate::specs::Encoded::entry_text))]
 fn entry_len(pair: &PrefPair) -> u64
     ensures len { result ≡ length (entry_text pair.now) }
     ensures few { result ≤ 2000 }
@@ -20,7 +20,7 @@ fn entry_len(pair: &PrefPair) -> u64
 }
 
 /// How many bytes an entry has.
-#[tactic(auto, unfolding(crate::specs::Encoded::pair_text))]
+#[tactic(auto, using(crate::proofs::Fields::lengths), unfolding(crate::specs::Encoded::pair_text))]
 pub fn pair_len(pair: &PrefPair) -> u64
     ensures { result ≡ length (pair_text pair.now) }
 {
@@ -43,6 +43,7 @@ pub fn put_pair(out: &mut Vec<u8>, pair: &PrefPair) -> Result<(), AllocError>
 pub fn read_pair(bytes: &[u8]) -> Option<(&[u8], PrefValue, &[u8])>
     ensures read { Gives (λ x. (record { key = x.0.now; value = x.1 }, x.2.now)) result (pair_at bytes.now) }
     ensures value { IfSome result (λ x. IsValue x.1) }
+    ensures rest { IfSome result (λ x. length x.2.now < length bytes.now) }
 {
     let (entry, behind) = read_field(tag::PREFERENCES, bytes)?;
     let (key, rest) = read_field(tag::KEY, entry)?;

@@ -1,4 +1,4 @@
-ghost use Rattle.std.specs.Prelude.{◌≡◌, ◌++◌, length, OnOk};
+ghost use Rattle.std.specs.Prelude.{◌≡◌, ◌≤◌, ◌++◌, length, OnOk, IfSome};
 ghost use Rattle.prefs_proto.specs.Varint.{varint};
 ghost use Rattle.prefs_proto.specs.Reading.{Gives, groups_at, varint_at};
 
@@ -9,7 +9,8 @@ const MORE: u8 = 9;
 
 /// How many bytes the varint of a number has, 1 to 10.
 pub fn varint_len(number: u64) -> u64
-    ensures { result ≡ length (varint number) }
+    ensures len { result ≡ length (varint number) }
+    ensures few { result ≤ 10 }
 {
     let mut len = 1;
     let mut rest = number;
@@ -35,15 +36,17 @@ pub fn put_varint(out: &mut Vec<u8>, number: u64) -> Result<(), AllocError>
 
 /// The number at the front, and the bytes behind it.
 pub fn read_varint(bytes: &[u8]) -> Option<(u64, &[u8])>
-    ensures { Gives (λ x. (x.0, x.1.now)) result (varint_at bytes.now) }
+    ensures read { Gives (λ x. (x.0, x.1.now)) result (varint_at bytes.now) }
+    ensures rest { IfSome result (λ x. length x.1.now ≤ length bytes.now) }
 {
     read_groups(MORE, bytes)
 }
 
 /// The same, where at most `more` bytes follow the first.
-#[tactic(auto, using(crate::proofs::VarintLemmas::groups_steps))]
+#[tactic(auto, using(crate::proofs::Varints::groups_steps))]
 fn read_groups(more: u8, bytes: &[u8]) -> Option<(u64, &[u8])>
-    ensures { Gives (λ x. (x.0, x.1.now)) result (groups_at more bytes.now) }
+    ensures read { Gives (λ x. (x.0, x.1.now)) result (groups_at more bytes.now) }
+    ensures rest { IfSome result (λ x. length x.1.now ≤ length bytes.now) }
 {
     let (first, rest) = bytes.split_first()?;
     if *first < 128 {

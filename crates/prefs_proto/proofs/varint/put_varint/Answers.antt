@@ -1,6 +1,6 @@
 use Rattle.std.proofs.Common.{◌+◌, ◌%◌, ◌/◌, [], ◌∷◌, ◌++◌, List, ℕ, ap, sym, ◌∙◌, append_assoc, arith}
 use Rattle.prefs_proto.specs.Varint.{varint}
-use Rattle.prefs_proto.proofs.VarintLemmas.{varint-last, varint-more}
+use Rattle.prefs_proto.proofs.Varints.{varint-last, varint-more}
 use Rattle.prefs_proto.proofs.varint.put_varint.Goals as goal
 
 pub loop-rest-preserved : goal.loop-rest-preserved
