@@ -27,7 +27,7 @@ entry_fits pair is =
       length-field 0x12 content,
       varint-within (length pair.key),
       varint-within (length content),
-      value_text-within pair.value
+      value_text-within pair.value,
     )
 
 key_again : (pair : PrefPair) → IsPair pair → field_at 0x0a (entry_text pair) ≡ Some (pair.key, field 0x12 (value_text pair.value))

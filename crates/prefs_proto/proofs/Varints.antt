@@ -2,7 +2,7 @@
 use Rattle.std.proofs.Common.{◌≡◌, ℕ, zero, suc, ◌+◌, ◌-◌, ◌*◌, ◌/◌, ◌%◌, ◌^◌, ◌<◌, ◌≤◌, ◌≢◌, List, [], ◌∷◌, ◌++◌, length, Option, Some, None, refl, sym, ap, ◌∙◌, cond, ltb, true, false, arith, inl, inr}
 use Rattle.std.proofs.lemmas.Bool.{cases_lt, ltb-true, ltb-false, lt-ltb, le-ltb}
 use Rattle.std.proofs.Math.Nat.{pow-suc}
-use Rattle.prefs_proto.specs.Varint.{varint, groups}
+use Rattle.prefs_proto.specs.Varint.{varint, groups, IsVarint}
 use Rattle.prefs_proto.specs.Reading.{◌>>=◌, groups_at, varint_at}
 
 -- what is left behind seven bits has seven bits fewer
@@ -66,6 +66,26 @@ groups-within (suc more) n =
 pub varint-within : (n : ℕ) → length (varint n) ≤ 10
 unfolding varint
 varint-within n = groups-within 9 n
+
+-- ---- the law of varints
+
+IsVarint-cons : (first : ℕ) (bytes : List ℕ) (n high : ℕ) → 128 ≤ first → first < 256 → 0 < high → n + 128 ≡ first + 128 * high → IsVarint bytes high → IsVarint (first ∷ bytes) n
+IsVarint-cons first [] n high more byte some sum rest = absurd rest
+IsVarint-cons first (second ∷ bytes) n high more byte some sum rest = (more, byte, high, some, sum, rest)
+
+IsVarint-groups : (more n : ℕ) → n < 128 ^ suc more → IsVarint (groups more n) n
+unfolding groups
+IsVarint-groups zero n h = (omega (arith, h), refl)
+IsVarint-groups (suc more) n h =
+    elim (cases_lt n 128) [
+      | inl lt ↦ rw (lt-ltb n 128 lt) (lt, refl)
+      | inr le ↦ rw (le-ltb n 128 le) (IsVarint-cons (n % 128 + 128) (groups more (n / 128)) n (n / 128) (omega arith) (omega arith) (omega arith) (omega arith) (IsVarint-groups more (n / 128) (high_below more n h)))
+    ]
+
+-- the varint of a number is the shortest one
+pub IsVarint-varint : (n : ℕ) → n < 2 ^ 64 → IsVarint (varint n) n
+unfolding varint
+IsVarint-varint n small = IsVarint-groups 9 n (omega arith)
 
 -- ---- a step of reading
 

@@ -5,6 +5,7 @@
 
 mod candidate;
 mod field;
+mod laws;
 mod map_text;
 mod pair;
 mod prefs_codec;
@@ -12,4 +13,8 @@ mod tag;
 mod value;
 mod varint;
 
+pub use laws::{one_map, shortest_varint};
 pub use prefs_codec::PrefsCodec;
+
+#[cfg(test)]
+mod tests;

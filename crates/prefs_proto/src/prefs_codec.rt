@@ -20,10 +20,13 @@ impl PrefsCodec {
     pub fn decode(&self, alloc: Global, bytes: &[u8]) -> Result<Decoded<PrefMap>, AllocError>
         ensures { IfOk result (λ decoded. MatchDecoded decoded (HasText bytes.now) ((m : List PrefPair) → HasText bytes.now m → ⊥)) }
     {
-        match read_candidate(alloc, bytes)? {
-            Some(map) if is_text_of(alloc, bytes, &map)? => Ok(Decoded::Good(map)),
-            _ => Ok(Decoded::Corrupt),
+        let Some(map) = read_candidate(alloc, bytes)? else {
+            return Ok(Decoded::Corrupt);
+        };
+        if !is_text_of(alloc, bytes, &map)? {
+            return Ok(Decoded::Corrupt);
         }
+        Ok(Decoded::Good(map))
     }
 
     /// The one text of the map.
