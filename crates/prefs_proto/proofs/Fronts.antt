@@ -1,5 +1,5 @@
 -- The loop that reads a map, entry by entry.
-use Rattle.std.proofs.Common.{◌≡◌, ℕ, ◌<◌, List, [], ◌∷◌, ◌++◌, length, All, Option, Some, None, refl, sym, ap, ◌∙◌, subst, arith, append_assoc, length-append}
+use Rattle.std.proofs.Common.{◌≡◌, ℕ, ◌<◌, List, [], ◌∷◌, ◌++◌, length, All, Some, None, refl, sym, ap, ◌∙◌, subst, arith, append_assoc, length-append}
 use Rattle.std.proofs.lemmas.Cmp.{nat_list_cmp_total}
 use Rattle.std.proofs.lemmas.List.{append-nil, get_or_at}
 use Rattle.std.proofs.lemmas.List.Elements.{All-nil, All-cons, All-same}
@@ -8,11 +8,10 @@ use Rattle.std.specs.declared.cmp.Ordering.TheVariants.{Less}
 use Rattle.prefs_model.specs.Rising.{key_cmp, IsRising}
 use Rattle.prefs_model.specs.Map.{IsMap, IsKey, key_of, with_value}
 use Rattle.prefs_model.specs.declared.pref_pair.PrefPair.{PrefPair}
-use Rattle.prefs_model.specs.declared.pref_value.PrefValue.{PrefValue}
 use Rattle.prefs_model.proofs.Maps.{with_value_end, IsMap-front}
 use Rattle.prefs_model.proofs.Rising.{All-with_item}
 use Rattle.prefs_proto.specs.ValueText.{IsValue}
-use Rattle.prefs_proto.specs.Encoded.{pair_text, encoded, HasText}
+use Rattle.prefs_proto.specs.Encoded.{encoded, HasText}
 use Rattle.prefs_proto.specs.Reading.{pair_at}
 use Rattle.prefs_proto.proofs.Pairs.{IsPair, pair_again}
 use Rattle.prefs_proto.proofs.Encodings.{encoded-nil, encoded-cons, encoded-cons-nil, HasText-pairs}

@@ -1,7 +1,6 @@
 -- Worked rows of the definition.
-use Rattle.std.proofs.Common.{◌≡◌, ℕ, List, [], ◌∷◌, ◌++◌, refl}
-use Rattle.std.specs.Prelude.{ℤ, pos, negsuc, codes}
-use Rattle.prefs_model.specs.declared.pref_pair.PrefPair.{PrefPair}
+use Rattle.std.proofs.Common.{◌≡◌, [], ◌∷◌, refl}
+use Rattle.std.specs.Prelude.{pos, negsuc, codes}
 use Rattle.prefs_model.specs.declared.pref_value.PrefValue.TheVariants.{Int}
 use Rattle.prefs_proto.specs.Varint.{varint, groups}
 use Rattle.prefs_proto.specs.ValueText.{value_text}

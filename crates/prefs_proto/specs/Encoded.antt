@@ -1,6 +1,6 @@
 -- The one text of a map: the message `PreferenceMap` of preferences.proto, a `map<string, Value>` in field 1.
 -- (Protocol Buffers, "Encoding", sections "Length-Delimited Records" and "Maps".)
-use Rattle.std.specs.Prelude.{ℕ, ◌≡◌, List, [], ◌∷◌, ◌++◌, All, length}
+use Rattle.std.specs.Prelude.{ℕ, ◌≡◌, List, ◌∷◌, ◌++◌, All, length}
 use Rattle.std.specs.List.{flat_map}
 use Rattle.prefs_model.specs.Map.{IsMap}
 use Rattle.prefs_model.specs.declared.pref_pair.PrefPair.{PrefPair}
