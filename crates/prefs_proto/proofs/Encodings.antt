@@ -52,8 +52,8 @@ encoded_same (p ∷ a) (q ∷ b) fits_a fits_b e =
     λ i. parts.0 i ∷ behind i
 
 -- bytes are the text of at most one map
-pub one_map : (bytes : List ℕ) (a b : List PrefPair) → HasText bytes a → HasText bytes b → a ≡ b
-one_map bytes a b is_a is_b = encoded_same a b (HasText-pairs bytes a is_a) (HasText-pairs bytes b is_b) (sym is_a.text ∙ is_b.text)
+pub same_from_text : (bytes : List ℕ) (a b : List PrefPair) → HasText bytes a → HasText bytes b → a ≡ b
+same_from_text bytes a b is_a is_b = encoded_same a b (HasText-pairs bytes a is_a) (HasText-pairs bytes b is_b) (sym is_a.text ∙ is_b.text)
 
 -- no bytes are the text of the empty map
 pub HasText-nil : HasText [] []

@@ -1,11 +1,10 @@
 -- The loop that reads a map, entry by entry.
 use Rattle.std.proofs.Common.{◌≡◌, ℕ, ◌<◌, List, [], ◌∷◌, ◌++◌, length, All, Some, None, refl, sym, ap, ◌∙◌, subst, arith, append_assoc, length-append}
-use Rattle.std.proofs.lemmas.Cmp.{nat_list_cmp_total}
 use Rattle.std.proofs.lemmas.List.{append-nil, get_or_at}
-use Rattle.std.proofs.lemmas.List.Elements.{All-nil, All-cons, All-same}
+use Rattle.std.proofs.lemmas.List.Elements.{All-nil, All-same}
 use Rattle.std.proofs.lemmas.Option.{none-some, some_pair_parts}
 use Rattle.std.specs.declared.cmp.Ordering.TheVariants.{Less}
-use Rattle.prefs_model.specs.Rising.{key_cmp, IsRising}
+use Rattle.prefs_model.specs.Rising.{key_cmp}
 use Rattle.prefs_model.specs.Map.{IsMap, IsKey, key_of, with_value}
 use Rattle.prefs_model.specs.declared.pref_pair.PrefPair.{PrefPair}
 use Rattle.prefs_model.proofs.Maps.{with_value_end, IsMap-front}
@@ -14,6 +13,7 @@ use Rattle.prefs_proto.specs.ValueText.{IsValue}
 use Rattle.prefs_proto.specs.Encoded.{encoded, HasText}
 use Rattle.prefs_proto.specs.Reading.{pair_at}
 use Rattle.prefs_proto.proofs.Pairs.{IsPair, pair_again}
+use Rattle.prefs_proto.proofs.Above.{front_below}
 use Rattle.prefs_proto.proofs.Encodings.{encoded-nil, encoded-cons, encoded-cons-nil, HasText-pairs}
 
 -- the pairs begin with these, and the rest is the text of those behind them
@@ -43,17 +43,6 @@ pub all_read : (bytes : List ℕ) (front : List PrefPair) (rest : List ℕ) (pai
 all_read bytes front rest pairs read nothing has =
     let found = read.only pairs has in
     sym (all_behind front found.behind pairs found.whole (sym nothing ∙ found.text))
-
--- ---- the keys before a pair
-
-least_before : (first : PrefPair) (front : List PrefPair) (pair : PrefPair) (behind : List PrefPair) → IsRising key_of (first ∷ (front ++ pair ∷ behind)) → key_cmp first.key pair.key ≡ Less
-least_before first [] pair behind rising = rising.0
-least_before first (second ∷ front) pair behind rising = nat_list_cmp_total.trans first.key second.key pair.key rising.0 (least_before second front pair behind rising.1)
-
--- the keys before a pair are less than its key
-front_below : (front : List PrefPair) (pair : PrefPair) (behind : List PrefPair) → IsRising key_of (front ++ pair ∷ behind) → All (λ earlier. key_cmp earlier.key pair.key ≡ Less) front
-front_below [] pair behind rising = All-nil (λ earlier. key_cmp earlier.key pair.key ≡ Less)
-front_below (first ∷ front) pair behind rising = All-cons (λ earlier. key_cmp earlier.key pair.key ≡ Less) first front (least_before first front pair behind rising) (front_below front pair behind rising.1)
 
 -- ---- the pair that comes next
 

@@ -1,3 +1,4 @@
+pub mod Above
 pub mod Encodings
 pub mod Fields
 pub mod Fronts

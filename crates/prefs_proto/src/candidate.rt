@@ -1,4 +1,4 @@
-ghost use Rattle.std.specs.Prelude.{◌≡◌, List, All, IsTrue, IfOk, IfSome};
+ghost use Rattle.std.specs.Prelude.{◌≡◌, ◌↔◌, List, All, IsTrue, IfOk, IfSome};
 ghost use Rattle.std.specs.Option.{SomeIff};
 ghost use Rattle.std.specs.declared.cmp.Ordering.TheVariants.{Less};
 ghost use Rattle.prefs_model.specs.Map.{IsKey, key_cmp};
@@ -20,9 +20,10 @@ fn key_of(alloc: Global, bytes: &[u8]) -> Result<Option<PrefKey>, AllocError>
     Ok(PrefKey::new(String::from_str(alloc, text)?).ok())
 }
 
-/// Whether the key comes behind those of the map.
-fn is_last(map: &PrefMap, key: &PrefKey) -> bool
-    ensures { All (λ pair. key_cmp pair.key key.now ≡ Less) map.now → IsTrue result }
+/// Whether the key is above those of the map.
+#[tactic(auto, using(crate::proofs::Above::below_from_last))]
+fn is_above(map: &PrefMap, key: &PrefKey) -> bool
+    ensures { IsTrue result ↔ All (λ pair. key_cmp pair.key key.now ≡ Less) map.now }
 {
     match map.pairs().last() {
         None => true,
@@ -44,7 +45,7 @@ pub fn read_candidate(alloc: Global, bytes: &[u8]) -> Result<Option<PrefMap>, Al
         let Some(key) = key_of(alloc, key)? else {
             return Ok(None);
         };
-        if !is_last(&map, &key) {
+        if !is_above(&map, &key) {
             return Ok(None);
         }
         map.set(key, value)?;

@@ -13,7 +13,7 @@ mod tag;
 mod value;
 mod varint;
 
-pub use laws::{one_map, shortest_varint};
+pub use laws::{one_map_from_bytes, shortest_varint};
 pub use prefs_codec::PrefsCodec;
 
 #[cfg(test)]

@@ -20,12 +20,12 @@ returns-in_default-2-clause-only c pairs has =
     let is_none = rw c.in_default-2.is at c.in_ok-key.ensures in
     absurd (is_none (next_key c.args.bytes.now c.loop-rest.map c.loop-rest.rest.now c.loop-rest.invariant (some_left c.loop-rest.rest.now c.loop-rest-test.ensures) pairs has pair c.in-Some.behind.now c.in-Some.ensures.read))
 
-pub returns-then-not-is_last-clause-only : goal.returns-then-not-is_last-clause-only
-returns-then-not-is_last-clause-only c pairs has =
+pub returns-then-not-is_above-clause-only : goal.returns-then-not-is_above-clause-only
+returns-then-not-is_above-clause-only c pairs has =
     let pair : PrefPair = record { key = c.in-Some.key.now; value = c.in-Some.value } in
     let key = rw c.in-Some-2.is at c.in_ok-key.ensures in
     let below = next_below c.args.bytes.now c.loop-rest.map c.loop-rest.rest.now c.loop-rest.invariant (some_left c.loop-rest.rest.now c.loop-rest-test.ensures) pairs has pair c.in-Some.behind.now c.in-Some.ensures.read in
-    let wrong : false ≡ true = c.if-not-is_last.ensures (subst (λ (k : List ℕ). All (λ (p : PrefPair). key_cmp p.key k ≡ Less) c.loop-rest.map) (sym key.1) below) in
+    let wrong : false ≡ true = c.if-not-is_above.ensures.1 (subst (λ (k : List ℕ). All (λ (p : PrefPair). key_cmp p.key k ≡ Less) c.loop-rest.map) (sym key.1) below) in
     absurd cc
 
 pub loop-rest-preserved : goal.loop-rest-preserved
