@@ -1,11 +1,11 @@
 -- The laws of a map of settings.
-use Rattle.std.proofs.Common.{◌≡◌, ◌≢◌, ℕ, List, [], ◌∷◌, ◌++◌, Some, Result, Ok, Err, OnOk, OnErr, ap, subst, sym, arith, length-append}
+use Rattle.std.proofs.Common.{◌≡◌, ◌≢◌, ℕ, List, All, [], ◌∷◌, ◌++◌, Some, Result, Ok, Err, OnOk, OnErr, ap, subst, sym, arith, length-append}
 use Rattle.std.specs.declared.alloc.AllocError.{AllocError}
 use Rattle.std.proofs.lemmas.List.{get_or_append_left}
 use Rattle.prefs_model.specs.declared.pref_pair.PrefPair.{PrefPair}
 use Rattle.prefs_model.specs.declared.pref_value.PrefValue.{PrefValue}
 use Rattle.prefs_model.specs.Map.{IsKey, IsMap, key_of, value_at, with_value}
-use Rattle.prefs_model.proofs.Rising.{IsRising-front, IsRising-with_item, All-with_item, with_item_end, with_item_found, value_with_item, value_with_other, same_from_values}
+use Rattle.prefs_model.proofs.Rising.{each_found, IsRising-front, IsRising-with_item, All-with_item, with_item_end, with_item_found, value_with_item, value_with_other, same_from_values}
 
 pub IsMap-with_value : (pairs : List PrefPair) (key : List ℕ) (value : PrefValue) → IsMap pairs → IsKey key → IsMap (with_value pairs key value)
 IsMap-with_value pairs key value map is_key =
@@ -37,6 +37,10 @@ with_value_end pairs pair map = with_item_end key_of pairs pair map.rising
 -- a front of a map is a map
 pub IsMap-front : (pairs more : List PrefPair) → IsMap (pairs ++ more) → IsMap pairs
 IsMap-front pairs more map = record { rising = IsRising-front key_of pairs more map.rising; keys = λ k d lt. subst (λ pair. IsKey pair.key) (get_or_append_left pairs more d k lt) (map.keys k d (omega (arith, length-append pairs more))) }
+
+-- each pair gives the value at its key
+pub value_at-pair : (pairs : List PrefPair) → IsMap pairs → All (λ pair. value_at pairs pair.key ≡ Some pair.value) pairs
+value_at-pair pairs map = each_found key_of (λ pair. pair.value) pairs map.rising
 
 -- maps that have the same value at each key are one map
 pub same_from_value_at : (a b : List PrefPair) → IsMap a → IsMap b → ((key : List ℕ) → value_at a key ≡ value_at b key) → a ≡ b

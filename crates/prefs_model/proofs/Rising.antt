@@ -1,9 +1,9 @@
 -- Lists whose keys rise: what stays when an item gets the place of its key, and what is found then.
-use Rattle.std.proofs.Common.{◌≡◌, ◌≢◌, ℕ, List, [], ◌∷◌, ◌++◌, Option, Some, None, refl, sym, ◌∙◌, ap, subst, All, is_some, true, false, if◌then◌else◌}
+use Rattle.std.proofs.Common.{◌≡◌, ◌≢◌, ℕ, List, [], ◌∷◌, ◌++◌, Option, Some, None, refl, sym, ◌∙◌, ap, subst, All, is_some, true, false, zero, suc, get_or, arith, if◌then◌else◌}
 use Rattle.std.specs.Ordering.{is_eq}
 use Rattle.std.specs.declared.cmp.Ordering.{Ordering}
 use Rattle.std.specs.declared.cmp.Ordering.TheVariants.{Less, Equal, Greater}
-use Rattle.std.proofs.lemmas.List.Elements.{All-cons, All-head, All-tail}
+use Rattle.std.proofs.lemmas.List.Elements.{All-nil, All-cons, All-head, All-tail, All-weaker}
 use Rattle.std.proofs.lemmas.Option.{none-some, same_Some}
 use Rattle.prefs_model.specs.Rising.{key_cmp, IsBelow, IsRising, value_under, placed, with_item}
 use Rattle.prefs_model.proofs.Keys.{key_cmp_same, key_cmp_differs, same_from_equal, greater_from_less, less_from_greater, less_trans}
@@ -18,6 +18,14 @@ module _ {X : Type 0} (key_of : X → List ℕ) where
   IsRising-front [] more rising = tt
   IsRising-front (item ∷ []) more rising = (tt, tt)
   IsRising-front (item ∷ next ∷ items) more rising = (rising.0, IsRising-front (next ∷ items) more rising.1)
+
+  -- the first key is less than all that follow
+  pub first_is_least : (item : X) (items : List X) → IsRising key_of (item ∷ items) → All (λ later. key_cmp (key_of item) (key_of later) ≡ Less) items
+  first_is_least item [] rising = All-nil (λ later. key_cmp (key_of item) (key_of later) ≡ Less)
+  first_is_least item (next ∷ items) rising =
+      let IsAbove : X → X → Type 0 = λ first later. key_cmp (key_of first) (key_of later) ≡ Less in
+      let above = All-weaker (IsAbove next) (IsAbove item) (λ later less. less_trans (key_of item) (key_of next) (key_of later) rising.0 less) items (first_is_least next items rising.1) in
+      All-cons (IsAbove item) next items rising.0 above
 
   IsBelow-with_item : (key : List ℕ) (items : List X) (new : X) → key_cmp key (key_of new) ≡ Less → IsBelow key_of key items → IsBelow key_of key (with_item key_of items new)
   IsBelow-with_item key [] new less below = less
@@ -88,6 +96,19 @@ module _ {X : Type 0} (key_of : X → List ℕ) where
     value_with_other [] new key differs = rw (key_cmp_differs key (key_of new) differs)
     value_with_other (item ∷ items) new key differs = other_placed _ items item new key refl differs (value_with_other items new key differs)
 
+    found_first : (item : X) (items : List X) → At (item ∷ items) (key_of item) ≡ Some (value_of item)
+    found_first item items = rw (key_cmp_same (key_of item))
+
+    found_behind : (item later : X) (items : List X) → key_cmp (key_of item) (key_of later) ≡ Less → At items (key_of later) ≡ Some (value_of later) → At (item ∷ items) (key_of later) ≡ Some (value_of later)
+    found_behind item later items less found = rw (greater_from_less (key_of item) (key_of later) less) found
+
+    -- each item is found by its key
+    pub each_found : (items : List X) → IsRising key_of items → All (λ item. value_under key_of value_of items (key_of item) ≡ Some (value_of item)) items
+    each_found [] rising k d lt = absurd (omega arith)
+    each_found (item ∷ items) rising zero d lt = found_first item items
+    each_found (item ∷ items) rising (suc k) d lt =
+        found_behind item (get_or items k d) items (first_is_least item items rising k d (omega arith)) (each_found items rising.1 k d (omega arith))
+
     -- whether a key is found does not hang on what is asked of its item
     pub found-any : {Z : Type 0} (other : X → Z) (items : List X) (key : List ℕ) → is_some (At items key) ≡ is_some (value_under key_of other items key)
     found-any other [] key = refl
@@ -117,9 +138,6 @@ module _ {X : Type 0} (key_of : X → List ℕ) where
       -- what is found behind the first item
       value_behind : (item : X) (items : List X) (key : List ℕ) → IsRising key_of (item ∷ items) → At items key ≡ (if is_eq (key_cmp key (key_of item)) then None else At (item ∷ items) key)
       value_behind item items key rising = value_behind_by _ item items key refl rising
-
-      found_first : (a : X) (xs : List X) → At (a ∷ xs) (key_of a) ≡ Some (value_of a)
-      found_first a xs = rw (key_cmp_same (key_of a))
 
       -- the lesser of two first keys would be found in one list alone
       less_first : (a b : X) (xs ys : List X) → key_cmp (key_of a) (key_of b) ≡ Less → IsRising key_of (b ∷ ys) → At (a ∷ xs) (key_of a) ≡ At (b ∷ ys) (key_of a) → ⊥

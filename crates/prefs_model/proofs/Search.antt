@@ -1,29 +1,21 @@
 -- Where a binary search in items whose keys rise ends, and what an edit at that place does.
-use Rattle.std.proofs.Common.{◌≡◌, ℕ, zero, suc, ◌+◌, ◌<◌, ◌≤◌, false, List, [], ◌∷◌, length, get_or, set, Option, Some, None, Result, Ok, Err, IfOk, IfErr, refl, sym, ◌∙◌, ap, arith, All}
+use Rattle.std.proofs.Common.{◌≡◌, ℕ, zero, suc, ◌+◌, ◌<◌, List, [], ◌∷◌, length, get_or, set, Some, None, Result, Ok, Err, IfOk, IfErr, refl, ap, arith}
 use Rattle.std.specs.List.{insert}
-use Rattle.std.specs.List.Sorted.{IsSearchInRange, IsBinarySearchResult, IsNonDecreasingBy, IsSortedBy}
-use Rattle.std.specs.Ordering.{ordering_index, is_lt}
-use Rattle.std.specs.declared.cmp.Ordering.TheVariants.{Less, Equal, Greater}
+use Rattle.std.specs.List.Sorted.{IsSearchInRange, IsBinarySearchResult, IsSortedBy}
+use Rattle.std.specs.Ordering.{is_lt}
+use Rattle.std.specs.declared.cmp.Ordering.TheVariants.{Less}
 use Rattle.std.proofs.lemmas.Cmp.{nat_list_cmp_total, tied_back}
-use Rattle.std.proofs.lemmas.List.Elements.{All-nil, All-cons, All-weaker}
 use Rattle.std.proofs.lemmas.List.Sorted.{searchable_from_sorted}
-use Rattle.prefs_model.specs.Rising.{key_cmp, IsBelow, IsRising, IsAt, IsGapFor, value_under, with_item}
-use Rattle.prefs_model.proofs.Keys.{same_from_equal, greater_from_less, less_from_greater, less_trans}
+use Rattle.prefs_model.specs.Rising.{key_cmp, IsRising, IsAt, IsGapFor, value_under, with_item}
+use Rattle.prefs_model.proofs.Rising.{first_is_least}
+use Rattle.prefs_model.proofs.Keys.{same_from_equal, greater_from_less, less_from_greater}
 
 module _ {X : Type 0} (key_of : X → List ℕ) where
-  -- the first key is less than all that follow
-  first_is_least : (item : X) (items : List X) → IsRising key_of (item ∷ items) → All (λ later. key_cmp (key_of item) (key_of later) ≡ Less) items
-  first_is_least item [] rising = All-nil (λ later. key_cmp (key_of item) (key_of later) ≡ Less)
-  first_is_least item (next ∷ items) rising =
-      let IsAbove : X → X → Type 0 = λ first later. key_cmp (key_of first) (key_of later) ≡ Less in
-      let above = All-weaker (IsAbove next) (IsAbove item) (λ later less. less_trans (key_of item) (key_of next) (key_of later) rising.0 less) items (first_is_least next items rising.1) in
-      All-cons (IsAbove item) next items rising.0 above
-
   -- each key is less than any later one
   rising_far : (items : List X) → IsRising key_of items → (i j : ℕ) (d : X) → i < j → j < length items → key_cmp (key_of (get_or items i d)) (key_of (get_or items j d)) ≡ Less
   rising_far [] rising i j d lt in_range = absurd (omega arith)
   rising_far (item ∷ items) rising i zero d lt in_range = absurd (omega arith)
-  rising_far (item ∷ items) rising zero (suc j) d lt in_range = first_is_least item items rising j d (omega arith)
+  rising_far (item ∷ items) rising zero (suc j) d lt in_range = first_is_least key_of item items rising j d (omega arith)
   rising_far (item ∷ items) rising (suc i) (suc j) d lt in_range = rising_far items rising.1 i j d (omega arith) (omega arith)
 
   sorted_from_rising : (items : List X) → IsRising key_of items → IsSortedBy (λ a b. is_lt (key_cmp (key_of a) (key_of b))) items

@@ -2,8 +2,7 @@ ghost use Rattle.std.specs.Prelude.{◌≡◌, [], OnOk, OnErr, IsOk, IsSome, If
 ghost use Rattle.prefs_model.specs.Rising.{IsAt, IsGapFor};
 ghost use Rattle.prefs_model.specs.Map.{IsMap, IsKey, key_of, value_at, with_value};
 
-use crate::sorted;
-use crate::{PrefKey, PrefPair, PrefValue};
+use crate::{PrefKey, PrefPair, PrefValue, sorted};
 use std::alloc::{AllocError, Global};
 use std::marker::Model;
 

@@ -12,9 +12,11 @@ pub fn search<T: Keyed>(items: &[T], key: &str) -> Result<usize, usize>
     ensures found { IfOk result (IsAt T.key_of items.now key.now) }
     ensures absent { IfErr result (IsGapFor T.key_of items.now key.now) }
 {
-    items.binary_search_by(|item| -> Ordering
-        ensures { result ≡ key_cmp (T.key_of item.now) key.entry.now }
-    { item.sort_key().cmp(key) })
+    items.binary_search_by(
+        |item| -> Ordering
+            ensures { result ≡ key_cmp (T.key_of item.now) key.entry.now }
+        { item.sort_key().cmp(key) },
+    )
 }
 
 /// Puts the item at the place of its key, over the one that has the same key. Only a new key takes memory.

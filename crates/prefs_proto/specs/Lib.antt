@@ -1,1 +1,4 @@
 pub mod Encoded
+pub mod Reading
+pub mod ValueText
+pub mod Varint

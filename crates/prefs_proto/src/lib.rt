@@ -3,6 +3,18 @@
 //! Its one contract above is that a map has one text, `encoded`, and that what is read is that text.
 #![tactic(auto)]
 
+mod candidate;
+mod field;
+mod laws;
+mod map_text;
+mod pair;
 mod prefs_codec;
+mod tag;
+mod value;
+mod varint;
 
+pub use laws::{one_map_from_bytes, shortest_varint};
 pub use prefs_codec::PrefsCodec;
+
+#[cfg(test)]
+mod tests;

@@ -1,4 +1,4 @@
-use Rattle.std.proofs.Common.{arith, sym, ◌∙◌}
+use Rattle.std.proofs.Common.{arith, sym}
 use Rattle.prefs_model.proofs.Search.{with_item_at, with_item_gap, value_in_gap}
 use Rattle.prefs_model.proofs.sorted.insert.Goals as goal
 
@@ -12,7 +12,7 @@ returns-in-Ok-clause-ok g c =
 pub returns-in_ok-insert-in-Err-clause-ok : goal.returns-in_ok-insert-in-Err-clause-ok
 returns-in_ok-insert-in-Err-clause-ok g c =
     let gap = rw (c.deref.ensures.value, c.sort_key.ensures) at c.in-Err.ensures.absent in
-    c.in_ok-insert-in-Err.ensures.items ∙ sym (with_item_gap g.T.Keyed.key_of c.args.items.now.items c.args.item c.in-Err.place gap)
+    rw c.in_ok-insert-in-Err.ensures.items (sym (with_item_gap g.T.Keyed.key_of c.args.items.now.items c.args.item c.in-Err.place gap))
 
 -- memory fails only for a key that was not there
 pub returns-in_err-insert-in-Err-clause-overwrite_succeeds :

@@ -1,4 +1,4 @@
-use Rattle.std.proofs.Common.{sym, ◌∙◌, ap, rules, Some}
+use Rattle.std.proofs.Common.{sym, ◌∙◌, ap, Some}
 use Rattle.prefs_model.specs.Map.{key_of, value_at}
 use Rattle.prefs_model.proofs.Search.{value_at_place, value_in_gap}
 use Rattle.prefs_model.proofs.pref_map.PrefMap.get.Goals as goal

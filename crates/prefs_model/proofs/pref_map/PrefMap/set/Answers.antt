@@ -1,5 +1,5 @@
-use Rattle.std.proofs.Common.{sym, ◌∙◌, ap}
-use Rattle.prefs_model.specs.Map.{key_of, value_at}
+use Rattle.std.proofs.Common.{sym, ◌∙◌}
+use Rattle.prefs_model.specs.Map.{key_of}
 use Rattle.prefs_model.proofs.Rising.{found-any}
 use Rattle.prefs_model.proofs.Maps.{IsMap-set}
 use Rattle.prefs_model.proofs.pref_map.PrefMap.set.Goals as goal
