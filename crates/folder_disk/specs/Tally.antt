@@ -1,6 +1,6 @@
 -- A folder's count of faults, and what a call does to it.
-use Rattle.std.specs.Prelude.{ℕ, ◌≡◌, ◌+◌, ◌-◌, ◌^◌, ◌<◌, ◌≤◌, ◌⊎◌, min, Bool, IsTrue, List, [], ◌∷◌, length, Option, Some, None, if◌then◌else◌}
-use Rattle.std.specs.Bool.{OnTrue, OnFalse}
+use Rattle.std.specs.Prelude.{ℕ, ◌≡◌, ◌+◌, ◌-◌, ◌^◌, ◌≤◌, min, Bool, IsTrue, List, [], ◌∷◌, length, Option, Some, None, if◌then◌else◌}
+use Rattle.store_traits.specs.Faults.{Counts}
 use Rattle.folder_disk.specs.declared.call.FolderCall.{FolderCall}
 use Rattle.folder_disk.specs.Due.{Due, one_more, fails, taken_in}
 
@@ -10,17 +10,6 @@ pub record Tally : Type 0 where
   pub most : Option ℕ
   pub due : Due
 
--- a count rose: it is greater, or stands at its end
-abbrev pub Rose : ℕ → ℕ → Type 0
-Rose before now = (before < now) ⊎ (now ≡ 2 ^ 64 - 1)
-
--- a count rises where a call failed, and else stays
-pub record Counts (has_failed : Bool) (before now : ℕ) : Type 0 where
-  pub later : before ≤ now
-  pub fits : now ≤ 2 ^ 64 - 1
-  pub cause : OnTrue has_failed (Rose before now)
-  pub same : OnFalse has_failed (now ≡ before)
-
 -- where the folder is told, the next such call fails exactly where that is due, and counts as one fault then
 pub record AsDue (call : FolderCall) (has_failed : Bool) (old new : Tally) : Type 0 where
   pub failed : has_failed ≡ fails call old.due
@@ -29,9 +18,8 @@ pub record AsDue (call : FolderCall) (has_failed : Bool) (old new : Tally) : Typ
 
 -- what a call does to the tally: it fails only where the count rose
 pub record Tallies (told : Bool) (call : FolderCall) (has_failed : Bool) (old new : Tally) : Type 0 where
-  pub later : old.count ≤ new.count
+  pub counts : Counts has_failed old.count new.count
   pub fits : new.count ≤ 2 ^ 64 - 1
-  pub cause : OnTrue has_failed (Rose old.count new.count)
   pub most : new.most ≡ old.most
   pub due : IsTrue told → AsDue call has_failed old new
 

@@ -4,7 +4,6 @@
 #![tactic(auto)]
 
 mod call;
-mod fault_count;
 mod fault_plan;
 mod folder;
 mod main_file;

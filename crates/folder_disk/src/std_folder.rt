@@ -2,7 +2,6 @@ ghost use Rattle.std.specs.Prelude.{◌≡◌, ◌^◌, ℕ, [], false, None};
 ghost use Rattle.folder_disk.specs.Contents.{Gone, Wild};
 ghost use Rattle.folder_disk.specs.Planned.{no_calls};
 
-use crate::fault_count::FaultCount;
 use crate::main_file::{is_fault, read_path};
 use crate::{Folder, MainRead, ReadMainError};
 use std::alloc::{AllocError, Global};
@@ -11,7 +10,7 @@ use std::io::Write;
 use std::marker::Model;
 use std::rt::Files;
 use std::{fs, io};
-use store_traits::Failed;
+use store_traits::{Failed, FaultCount};
 
 /// Where a folder and its two files are.
 #[derive(Clone, Copy)]

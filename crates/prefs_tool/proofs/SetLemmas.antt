@@ -1,7 +1,8 @@
 -- A key that has the value already: the folder is synced, and nothing else is done.
 use Rattle.std.proofs.Common.{◌≡◌, ◌≤◌, inl, inr, ℕ, Bool, IsTrue, Result, Ok, Err, Option, Some, None, List, [], length, subst, arith}
 use Rattle.folder_disk.specs.Contents.{Contents}
-use Rattle.folder_disk.specs.Tally.{Tally, Rose}
+use Rattle.folder_disk.specs.Tally.{Tally}
+use Rattle.store_traits.proofs.FaultLemmas.{rose_since}
 use Rattle.prefs_model.specs.Map.{with_value, value_at}
 use Rattle.prefs_model.specs.declared.pref_pair.PrefPair.{PrefPair}
 use Rattle.prefs_model.specs.declared.pref_value.PrefValue.{PrefValue}
@@ -34,10 +35,6 @@ kept told old new before now pairs key value (Err Storage) reads has synced =
 kept told old new before now pairs key value (Err Corrupt) reads has synced = absurd synced
 kept told old new before now pairs key value (Err Refused) reads has synced = absurd synced
 kept told old new before now pairs key value (Err NoMemory) reads has synced = absurd synced
-
-rose_since : (before since now : ℕ) → before ≤ since → Rose since now → Rose before now
-rose_since before since now later (inl rose) = inl (omega arith)
-rose_since before since now later (inr full) = inr full
 
 -- a call before that left the contents as they were changes nothing of the answer
 pub synced_since : {T : Type 0} (told : Bool) (old middle new : Contents) (before since now : Tally) (result : Result T ToolError)

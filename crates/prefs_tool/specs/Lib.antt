@@ -1,6 +1,5 @@
 pub mod Append
 pub mod Command
-pub mod Faults
 pub mod Outcome
 pub mod Reading
 pub mod Replacing

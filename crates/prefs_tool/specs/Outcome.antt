@@ -6,7 +6,8 @@ use Rattle.prefs_proto.specs.Encoded.{encoded, HasText}
 use Rattle.folder_disk.specs.declared.call.FolderCall.TheVariants.{ReadMain}
 use Rattle.folder_disk.specs.Contents.{Contents, kept_with, main_alone}
 use Rattle.folder_disk.specs.Due.{fails}
-use Rattle.folder_disk.specs.Tally.{Tally, Rose}
+use Rattle.folder_disk.specs.Tally.{Tally}
+use Rattle.store_traits.specs.Faults.{Rose}
 use Rattle.prefs_tool.specs.Command.{Command, Set}
 use Rattle.prefs_tool.specs.declared.status.Status.{Status}
 use Rattle.prefs_tool.specs.declared.status.Status.TheVariants.{Done, Words, Storage, Corrupt, Refused, NoMemory}

@@ -5,7 +5,8 @@ use Rattle.prefs_proto.specs.Encoded.{HasText}
 use Rattle.folder_disk.specs.declared.call.FolderCall.TheVariants.{ReadMain}
 use Rattle.folder_disk.specs.Contents.{Contents}
 use Rattle.folder_disk.specs.Due.{fails}
-use Rattle.folder_disk.specs.Tally.{Tally, Rose}
+use Rattle.folder_disk.specs.Tally.{Tally}
+use Rattle.store_traits.specs.Faults.{Rose}
 use Rattle.prefs_tool.specs.Outcome.{ReadsAs, IsUnreadable}
 use Rattle.prefs_tool.specs.declared.tool_error.ToolError.{ToolError}
 use Rattle.prefs_tool.specs.declared.tool_error.ToolError.TheVariants.{Storage, Corrupt, Refused, NoMemory}

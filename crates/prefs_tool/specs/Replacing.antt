@@ -3,7 +3,8 @@ use Rattle.std.specs.Prelude.{ℕ, ◌⊎◌, ◌≤◌, ◌<◌, Bool, IsTrue, 
 use Rattle.prefs_model.specs.declared.pref_pair.PrefPair.{PrefPair}
 use Rattle.prefs_proto.specs.Encoded.{encoded}
 use Rattle.folder_disk.specs.Contents.{Contents}
-use Rattle.folder_disk.specs.Tally.{Tally, Rose}
+use Rattle.folder_disk.specs.Tally.{Tally}
+use Rattle.store_traits.specs.Faults.{Rose}
 use Rattle.prefs_tool.specs.Outcome.{file_limit, Untouched, Replaces, Settles}
 use Rattle.prefs_tool.specs.declared.tool_error.ToolError.{ToolError}
 use Rattle.prefs_tool.specs.declared.tool_error.ToolError.TheVariants.{Storage, Corrupt, Refused, NoMemory}

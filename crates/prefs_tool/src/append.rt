@@ -1,7 +1,7 @@
 ghost use Rattle.std.specs.Prelude.{◌≡◌, ◌≤◌, ◌++◌, IsTrue, OnOk, OnErr, is_err, length};
 ghost use Rattle.folder_disk.specs.Contents.{IsThere};
 ghost use Rattle.prefs_tool.specs.Append.{Appends};
-ghost use Rattle.prefs_tool.specs.Faults.{Counts};
+ghost use Rattle.store_traits.specs.Faults.{Counts};
 ghost use Rattle.prefs_tool.specs.Outcome.{Untouched};
 
 use folder_disk::Folder;

@@ -1,7 +1,7 @@
 ghost use Rattle.std.specs.Prelude.{◌≡◌, ◌≤◌, IsTrue, OnOk, is_err, length};
 ghost use Rattle.folder_disk.specs.Contents.{Synced};
 ghost use Rattle.folder_disk.specs.Room.{HasRoomFor};
-ghost use Rattle.prefs_tool.specs.Faults.{Counts};
+ghost use Rattle.store_traits.specs.Faults.{Counts};
 ghost use Rattle.prefs_tool.specs.Outcome.{Untouched};
 ghost use Rattle.prefs_tool.specs.Replacing.{ReplacesMain};
 
