@@ -1,0 +1,5 @@
+pub mod Varint
+pub mod Tag
+pub mod Payload
+pub mod Cursor
+pub mod Faults

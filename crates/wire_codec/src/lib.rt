@@ -1,0 +1,15 @@
+//! The wire format of Protocol Buffers: a message as a run of fields. It stands on std and on
+//! `store_traits` for the bytes of a file. Its main contract is that of `WireReader::next_field`:
+//! what comes is the field that the bytes begin with, or the first fault in them.
+#![tactic(auto)]
+
+mod cursor;
+mod field;
+mod payload;
+mod tag;
+mod wire_error;
+mod wire_type;
+
+pub use field::Field;
+pub use payload::Payload;
+pub use wire_error::WireError;
