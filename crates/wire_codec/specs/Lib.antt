@@ -1,5 +1,8 @@
 pub mod Varint
 pub mod Tag
 pub mod Payload
-pub mod Cursor
+pub mod Fields
+pub mod OpenGroups
 pub mod Faults
+pub mod Cursor
+pub mod Reader

@@ -1,10 +1,13 @@
 //! Where reading stands in a message.
 
+mod field;
+mod group;
 mod payload;
 mod tag;
 mod varint;
 
-ghost use Rattle.std.specs.Prelude.{◌≡◌, ◌+◌, ◌∷◌, [], ◌<◌, ◌≤◌, ◌^◌, ◌↔◌, IsTrue, length, MatchOption};
+ghost use Rattle.std.specs.Prelude.{◌≡◌, ◌+◌, ◌∷◌, [], ◌<◌, ◌^◌, length, MatchOption};
+ghost use Rattle.std.specs.Bool.{OnTrue, OnFalse};
 ghost use Rattle.wire_codec.specs.Cursor.{CursorSeen, Passes};
 
 use std::marker::Model;
@@ -57,7 +60,8 @@ impl<'a> Cursor<'a> {
     }
 
     pub(crate) fn is_at_end(&self) -> bool
-        ensures { IsTrue result ↔ (self.now.rest ≡ []) }
+        ensures end { OnTrue result (self.now.rest ≡ []) }
+        ensures left { OnFalse result (0 < length self.now.rest) }
     {
         self.left.is_empty()
     }

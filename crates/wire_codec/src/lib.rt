@@ -5,11 +5,15 @@
 
 mod cursor;
 mod field;
+mod open_group;
+mod open_groups;
 mod payload;
+mod reader;
 mod tag;
 mod wire_error;
 mod wire_type;
 
 pub use field::Field;
 pub use payload::Payload;
+pub use reader::WireReader;
 pub use wire_error::WireError;
