@@ -7,7 +7,6 @@ use crate::cursor::Cursor;
 use crate::field::Field;
 use crate::open_group::OpenGroup;
 use crate::payload::Payload;
-use crate::tag::Tag;
 use crate::wire_error::WireError;
 use crate::wire_type::WireType;
 
@@ -19,21 +18,29 @@ impl<'a> Cursor<'a> {
         ensures fault { IfErr result (FieldFault self.old.place self.old.rest) }
     {
         let place = self.place();
-        let Tag { number, wire_type } = self.tag()?;
-        let (payload, payload_place) = match wire_type {
-            WireType::Plain(plain) => self.payload(plain)?,
+        let tag = self.tag()?;
+        let number = tag.number;
+        match tag.wire_type {
+            WireType::Plain(plain) => {
+                let (payload, payload_place) = self.payload(plain)?;
+                Ok(Field {
+                    number,
+                    place,
+                    payload,
+                    payload_place,
+                })
+            }
             WireType::StartGroup => {
                 let payload_place = self.place();
                 self.group(OpenGroup { number, place })?;
-                (Payload::Group, payload_place)
+                Ok(Field {
+                    number,
+                    place,
+                    payload: Payload::Group,
+                    payload_place,
+                })
             }
-            WireType::EndGroup => return Err(WireError::LoneEndGroup { place }),
-        };
-        Ok(Field {
-            number,
-            place,
-            payload,
-            payload_place,
-        })
+            WireType::EndGroup => Err(WireError::LoneEndGroup { place }),
+        }
     }
 }
