@@ -4,3 +4,4 @@ pub mod OneField
 pub mod Reading
 pub mod Machine
 pub mod Laws
+pub mod Walk

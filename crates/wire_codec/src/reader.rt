@@ -1,5 +1,7 @@
-ghost use Rattle.std.specs.Prelude.{◌≡◌, ◌+◌, ◌^◌, ◌<◌, length, None};
-ghost use Rattle.wire_codec.specs.Reader.{ReaderSeen, Next, answer_seen};
+ghost use Rattle.std.specs.Prelude.{◌≡◌, ◌+◌, ◌^◌, ◌<◌, length, Result, Option, None};
+ghost use Rattle.wire_codec.specs.declared.wire_error.WireError.{WireError};
+ghost use Rattle.wire_codec.specs.Fields.{FieldSeen};
+ghost use Rattle.wire_codec.specs.Reader.{ReaderSeen, Next, PayloadFits, answer_seen};
 
 use crate::cursor::Cursor;
 use crate::field::Field;
@@ -15,11 +17,14 @@ pub struct WireReader<'a> {
 }
 
 impl<'a> Model for WireReader<'a> {
+    ghost use Rattle.std.specs.Prelude.{◌+◌, ◌^◌, ◌<◌, length};
     ghost use Rattle.wire_codec.specs.Reader.{ReaderSeen};
 
     ghost Value = { ReaderSeen };
 
     ghost view = { λ r. record { rest = r.cursor.rest; place = r.cursor.place; failed = r.failed } };
+
+    ghost invariant = { λ r. r.cursor.place + length r.cursor.rest < 2 ^ 64 };
 }
 
 impl<'a> WireReader<'a> {
@@ -45,7 +50,20 @@ impl<'a> WireReader<'a> {
     /// The next field, or none at the end of the message. A group is passed up to its end tag. An
     /// error leaves the place as it was, and is answered again from then on.
     pub fn next_field(&mut self) -> Result<Option<Field<'a>>, WireError>
-        ensures { Next self.old (answer_seen result) self.new }
+        // What comes is the field that the bytes begin with, or none at their end, or the first fault.
+        ensures next { Next self.old (answer_seen result) self.new }
+        // Nothing else could come.
+        ensures only { (answer : Result (Option FieldSeen) WireError) (new : ReaderSeen) → Next self.old answer new
+            → (answer_seen result ≡ answer) × (self.new ≡ new) }
+        // A reader can be made over the payload.
+        ensures fits { PayloadFits (answer_seen result) }
+    {
+        self.advance()
+    }
+
+    fn advance(&mut self) -> Result<Option<Field<'a>>, WireError>
+        ensures next { Next self.old (answer_seen result) self.new }
+        ensures small { self.old.place + length self.old.rest < 2 ^ 64 }
     {
         if let Some(e) = self.failed {
             return Err(e);
