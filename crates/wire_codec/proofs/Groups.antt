@@ -35,7 +35,7 @@ popped groups now count le view some =
 
 pub spells_length : {bytes : List ℕ} {n : ℕ} → Spells bytes n → 1 ≤ length bytes
 spells_length (last lt) = omega arith
-spells_length (more le s e) = omega arith
+spells_length (more le lt s e) = omega arith
 
 pub tag_length : {text : List ℕ} {number code : ℕ} → IsTag text number code → 1 ≤ length text
 tag_length t = spells_length t.spelt.spelt

@@ -187,6 +187,12 @@ apart f rest e h = cc
 pub field_once : {at : ℕ} {a b x y : List ℕ} {f g : FieldSeen} → IsField at a f → IsField at b g → a ++ x ≡ b ++ y → (f ≡ g) × (x ≡ y)
 field_once {at} {a} {b} {x} {y} {f} {g} p q e = found_once f g x y (begins_once (field_begins p x) (begins_at e (field_begins q y)))
 
+-- no field begins another
+pub one_field : {at : ℕ} {a b : List ℕ} {f g : FieldSeen} (x y : List ℕ) → IsField at a f → IsField at b g → a ++ x ≡ b ++ y → (f ≡ g) × (a ≡ b)
+one_field {at} {a} {b} x y p q e =
+    let one = field_once p q e in
+    (one.0, append_cancel_right a b x (e ∙ ap (λ (t : List ℕ). b ++ t) (sym one.1)))
+
 pub field_not_fault : {at : ℕ} {bytes a : List ℕ} {f : FieldSeen} {e : WireError} (x : List ℕ) → IsField at a f → bytes ≡ a ++ x → FieldFault at bytes e → ⊥
 field_not_fault {at} {bytes} {a} {f} {e} x p parts q = apart f x e (begins_once (begins_at parts (field_begins p x)) (fault_begins q))
 

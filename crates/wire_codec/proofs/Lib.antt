@@ -5,3 +5,5 @@ pub mod Reading
 pub mod Machine
 pub mod Laws
 pub mod Walk
+pub mod Texts
+pub mod Counts

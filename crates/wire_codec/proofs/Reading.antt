@@ -35,8 +35,8 @@ digits_again : (at : ℕ) {text : List ℕ} {w : ℕ} → Spells text w → (lef
 unfolding digits
 digits_again at (last lt) zero rest short = absurd (omega arith)
 digits_again at (last {b} lt) (suc left) rest short = cond-true (ltb b 128) _ _ (lt-ltb b 128 lt)
-digits_again at (more le s e) zero rest short = absurd (omega arith)
-digits_again at (more {b} {high} {n} le s e) (suc left) rest short =
+digits_again at (more le lt s e) zero rest short = absurd (omega arith)
+digits_again at (more {b} {high} {n} le lt s e) (suc left) rest short =
     cond-false (ltb b 128) _ _ (le-ltb b 128 le) ∙ ap (carried_on b) (digits_again at s left rest (omega arith))
     ∙ (let same : b - 128 + 128 * high ≡ n = omega arith in ap (λ (k : ℕ). Ok (k, rest)) same)
 

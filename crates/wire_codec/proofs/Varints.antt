@@ -72,7 +72,7 @@ in_varint_more {old} {mid} {now} {i} {v} {w} {v'} {w'} {b} h p le lt ev ew = rec
   goes_on = goes_on_push h.front b h.goes_on le;
   counted = omega (arith, length-append h.front (b ∷ []), h.counted);
   completes = λ tail n s.
-    let all = h.completes (b ∷ tail) (b - 128 + 128 * n) (more le s (with_high b n le)) in
+    let all = h.completes (b ∷ tail) (b - 128 + 128 * n) (more le lt s (with_high b n le)) in
     (all.0, rw append_assoc all.1, rw (ev, ew) (wrapped v (w * (b % 128)) (w * 128) n (2 ^ 64) ∙ ap (λ (k : ℕ). k % 2 ^ 64) (carried v w b n le lt) ∙ all.2));
 }
 

@@ -6,3 +6,5 @@ pub mod OpenGroups
 pub mod Faults
 pub mod Cursor
 pub mod Reader
+pub mod Text
+pub mod Message

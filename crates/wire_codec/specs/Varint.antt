@@ -1,12 +1,17 @@
 -- A varint: seven bits of a number in each byte, the least first. A byte from 128 on says that another
--- follows (Protocol Buffers encoding guide, "Base 128 Varints"). Bytes are below 256.
+-- follows (Protocol Buffers encoding guide, "Base 128 Varints").
 use Rattle.std.specs.Prelude.{◌≡◌, ℕ, ◌+◌, ◌*◌, ◌%◌, ◌^◌, ◌<◌, ◌≤◌, List, [], ◌∷◌, ◌++◌, length}
 use Rattle.std.specs.List.{AllByRecursion}
 
 -- the bytes spell the number, however many they are
 pub data Spells : List ℕ → ℕ → Type 0 where
   last : {b : ℕ} → b < 128 → Spells (b ∷ []) b
-  more : {b high n : ℕ} {bytes : List ℕ} → 128 ≤ b → Spells bytes high → n + 128 ≡ b + 128 * high → Spells (b ∷ bytes) n
+  more : {b high n : ℕ} {bytes : List ℕ} → 128 ≤ b → b < 256 → Spells bytes high → n + 128 ≡ b + 128 * high → Spells (b ∷ bytes) n
+
+-- no bytes spell the number that are fewer
+pub record IsShortest (bytes : List ℕ) (n : ℕ) : Type 0 where
+  pub spelt : Spells bytes n
+  pub least : (other : List ℕ) → Spells other n → length bytes ≤ length other
 
 -- At most ten bytes, and of the number that they spell the low 64 bits. Zeros at the high end are allowed.
 pub record IsVarint (bytes : List ℕ) (n : ℕ) : Type 0 where

@@ -5,6 +5,7 @@
 
 mod cursor;
 mod field;
+mod message;
 mod open_group;
 mod open_groups;
 mod payload;
@@ -12,8 +13,14 @@ mod reader;
 mod tag;
 mod wire_error;
 mod wire_type;
+mod writer;
+mod writing;
 
 pub use field::Field;
+pub use message::{
+    count_fields, one_first_fault, one_first_field, one_reading, shortest_varint, written_is_read,
+};
 pub use payload::Payload;
 pub use reader::WireReader;
 pub use wire_error::WireError;
+pub use writer::WireWriter;
