@@ -32,8 +32,6 @@ counting_all h end = record { fields = h.fields; are_fields = has_read_all h.rea
 
 -- ---- the count, or the fault, is the only one
 
-
-
 pub only_count : {at : ℕ} {message : List ℕ} (r : Result ℕ WireError) → MatchResult r (HasCount at message) (FirstFault at message) → (fields : List FieldSeen) → Fields at message fields → r ≡ Ok (length fields)
 only_count (Ok n) h fields f = ap (λ (k : ℕ). Ok k) (h.counted ∙ ap length (fields_once h.fields fields h.are_fields f refl))
 only_count (Err e) h fields f = absurd (fields_not_fault fields h.fields f h.are_fields h.parts h.fault)

@@ -13,7 +13,6 @@ use Rattle.wire_codec.specs.Faults.{PayloadFault, Opened, shut, inside, Closes, 
 use Rattle.wire_codec.specs.Cursor.{CursorSeen, Passes, PassesTag, PassesPayload, PassesGroup, Steps, over_field, into_group, out_of_group}
 use Rattle.wire_codec.proofs.Varints.{passes_none, passes_then}
 
-
 -- ---- the stack
 
 pub stacked_length : (groups : List OpenGroup) (count : ℕ) → count ≤ length groups → length (reverse (take count groups)) ≡ count
@@ -90,7 +89,7 @@ one_group {start = start} {body = body} {end = end} s b t = group_field start bo
 data Nested : ℕ → OpenGroup → List ℕ → List OpenGroup → Type 0 where
   bottom : {base : ℕ} {first : OpenGroup} {front : List ℕ} → IsBody 99 front → Nested base first front (first ∷ [])
   above : {base : ℕ} {first group : OpenGroup} {outer : List OpenGroup} {bytes : List ℕ} (before tag body : List ℕ) → bytes ≡ before ++ (tag ++ body)
-    → Nested base first before outer → group.place ≡ base + length before → IsTag tag group.number 3 → length outer < 100 → IsBody (99 - length outer) body → Nested base first bytes (group ∷ outer)
+      → Nested base first before outer → group.place ≡ base + length before → IsTag tag group.number 3 → length outer < 100 → IsBody (99 - length outer) body → Nested base first bytes (group ∷ outer)
 
 nested_over : {base : ℕ} {first : OpenGroup} {front text : List ℕ} {groups : List OpenGroup} → Nested base first front groups → ((depth : ℕ) → IsBody depth text) → Nested base first (front ++ text) groups
 nested_over (bottom b) x = bottom (body_append b (x 99))

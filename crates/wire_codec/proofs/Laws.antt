@@ -76,8 +76,8 @@ plain_begins {at} {number} payload tag lead text rest t p =
     let behind = lead ++ (text ++ rest) in
     let place : at + passed (tag ++ behind) behind ≡ at + length tag = ap (λ (k : ℕ). at + k) (passed_is tag behind) in
     begins_with (Ok ((number, wire_code payload), behind)) (tag_again at t fits.0 behind)
-      (at_false _ (ne_eqb (wire_code payload) 3 fits.1) (at_false _ (ne_eqb (wire_code payload) 4 fits.2)
-        (sym (ap (λ (k : ℕ). plain_first at number (payload_at k (wire_code payload) behind)) place ∙ ap (plain_first at number) (payload_again (at + length tag) lead text payload p rest)))))
+    (at_false _ (ne_eqb (wire_code payload) 3 fits.1) (at_false _ (ne_eqb (wire_code payload) 4 fits.2)
+    (sym (ap (λ (k : ℕ). plain_first at number (payload_at k (wire_code payload) behind)) place ∙ ap (plain_first at number) (payload_again (at + length tag) lead text payload p rest)))))
 
 group_begins : {at number : ℕ} (start behind : List ℕ) (result : Result (List ℕ) WireError) → IsTag start number 3 → Goes (run (record { number = number; place = at } ∷ []) (at + length start) behind) (stop result)
     → Begins at (start ++ behind) (group_first at number (at + length start) result)
@@ -85,11 +85,11 @@ unfolding TagGives
 group_begins {at} {number} start behind result t goes =
     let place : at + length start ≡ at + passed (start ++ behind) behind = ap (λ (k : ℕ). at + k) (sym (passed_is start behind)) in
     begins_with (Ok ((number, 3), behind)) (tag_again at t (omega arith) behind)
-      (record {
-        result = result;
-        goes = subst (λ (k : ℕ). Goes (run (record { number = number; place = at } ∷ []) k behind) (stop result)) place goes;
-        first_is = ap (λ (k : ℕ). group_first at number k result) place;
-      })
+    (record {
+      result = result;
+      goes = subst (λ (k : ℕ). Goes (run (record { number = number; place = at } ∷ []) k behind) (stop result)) place goes;
+      first_is = ap (λ (k : ℕ). group_first at number k result) place;
+    })
 
 begins_at : {at : ℕ} {first : First} {a b : List ℕ} → a ≡ b → Begins at b first → Begins at a first
 begins_at {at} {first} e x = subst (λ (bytes : List ℕ). Begins at bytes first) (sym e) x
@@ -100,8 +100,8 @@ group_of at number start text t g rest =
     let opened : OpenGroup = record { number = number; place = at } in
     let regrouped : start ++ (text ++ rest) ≡ start ++ (g.body ++ (g.end ++ rest)) = ap (λ (x : List ℕ). start ++ (x ++ rest)) g.parts ∙ ap (λ (x : List ℕ). start ++ x) (append_assoc g.body g.end rest) in
     begins_at regrouped (group_begins start (g.body ++ (g.end ++ rest)) (Ok rest) t
-      (goes_then (body_goes g.fields (record { number = number; place = at }) [] (at + length start) (g.end ++ rest) (omega arith))
-      (goes_then (end_goes (record { number = number; place = at }) [] (at + length start + length g.body) g.end rest g.closed) (then here))))
+    (goes_then (body_goes g.fields (record { number = number; place = at }) [] (at + length start) (g.end ++ rest) (omega arith))
+    (goes_then (end_goes (record { number = number; place = at }) [] (at + length start + length g.body) g.end rest g.closed) (then here))))
 
 abbrev first_field : ℕ → ℕ → PayloadSeen → ℕ → List ℕ → First
 first_field number place payload payload_place rest = Ok (record { number = number; place = place; payload = payload; payload_place = payload_place }, rest)
@@ -124,9 +124,9 @@ parts_begin at number group tag lead text t p rest =
 pub field_begins : {at : ℕ} {text : List ℕ} {f : FieldSeen} → IsField at text f → (rest : List ℕ) → Begins at (text ++ rest) (Ok (f, rest))
 field_begins {at} {text} {f} h rest =
     begins_at (ap (λ (x : List ℕ). x ++ rest) h.parts)
-      (subst (λ (k : ℕ). Begins at ((h.tag ++ (h.lead ++ h.text)) ++ rest) (first_field f.number k f.payload f.payload_place rest)) (sym h.place)
-      (subst (λ (k : ℕ). Begins at ((h.tag ++ (h.lead ++ h.text)) ++ rest) (first_field f.number at f.payload k rest)) (sym h.payload_place)
-        (parts_begin at f.number f.payload h.tag h.lead h.text h.is_tag h.is_payload rest)))
+    (subst (λ (k : ℕ). Begins at ((h.tag ++ (h.lead ++ h.text)) ++ rest) (first_field f.number k f.payload f.payload_place rest)) (sym h.place)
+    (subst (λ (k : ℕ). Begins at ((h.tag ++ (h.lead ++ h.text)) ++ rest) (first_field f.number at f.payload k rest)) (sym h.payload_place)
+    (parts_begin at f.number f.payload h.tag h.lead h.text h.is_tag h.is_payload rest)))
 
 fault_first : {at : ℕ} {rest : List ℕ} {e : WireError} → FaultAt at [] rest e → Begins at rest (Err e)
 unfolding TagGives
@@ -135,8 +135,8 @@ fault_first {at} {rest} (bad_payload {number = number} {code = code} tag after p
     let fits = payload_code_plain f in
     let place : at + passed (tag ++ after) after ≡ at + length tag = ap (λ (k : ℕ). at + k) (passed_is tag after) in
     begins_at parts (begins_with (Ok ((number, code), after)) (tag_again at t fits.0 after)
-      (at_false _ (ne_eqb code 3 fits.1) (at_false _ (ne_eqb code 4 fits.2)
-        (sym (ap (λ (k : ℕ). plain_first at number (payload_at k code after)) place ∙ ap (plain_first at number) (payload_fault f))))))
+    (at_false _ (ne_eqb code 3 fits.1) (at_false _ (ne_eqb code 4 fits.2)
+    (sym (ap (λ (k : ℕ). plain_first at number (payload_at k code after)) place ∙ ap (plain_first at number) (payload_fault f))))))
 fault_first {at} {rest} (lone_end {number = number} tag after parts t other) =
     begins_at parts (begins_with (Ok ((number, 4), after)) (tag_again at t (omega arith) after) refl)
 fault_first (too_deep tag after parts t full) = absurd (omega arith)
@@ -151,7 +151,7 @@ fault_of {at = at} {front = front} {rest = rest} {groups = g ∷ outer} {e = e} 
     let goes : Goes (run (h.first ∷ []) (at + length h.start) (h.behind ++ rest)) (stop (Err e)) = goes_then h.goes (fault_goes f) in
     let regrouped : front ++ rest ≡ h.start ++ (h.behind ++ rest) = ap (λ (x : List ℕ). x ++ rest) h.parts ∙ append_assoc h.start h.behind rest in
     begins_at regrouped (group_begins h.start (h.behind ++ rest) (Err e) h.is_tag
-      (subst (λ (x : OpenGroup). Goes (run (x ∷ []) (at + length h.start) (h.behind ++ rest)) (stop (Err e))) first_is goes))
+    (subst (λ (x : OpenGroup). Goes (run (x ∷ []) (at + length h.start) (h.behind ++ rest)) (stop (Err e))) first_is goes))
 
 pub fault_begins : {at : ℕ} {bytes : List ℕ} {e : WireError} → FieldFault at bytes e → Begins at bytes (Err e)
 fault_begins {at} h = begins_at h.parts (fault_of h.opened h.fault)

@@ -87,28 +87,28 @@ plain_goes g outer at {number} payload tag lead text rest t p =
     let place : at + passed (tag ++ behind) behind ≡ at + length tag = ap (λ (k : ℕ). at + k) (passed_is tag behind) in
     let far : passed behind rest ≡ length lead + length text = omega (arith, length-append lead (text ++ rest), length-append text rest) in
     one_step (
-      tagged g outer at t fits.0 behind
-      ∙ cond-false _ _ _ (ne_eqb (wire_code payload) 3 fits.1)
-      ∙ cond-false _ _ _ (ne_eqb (wire_code payload) 4 fits.2)
-      ∙ ap (λ (k : ℕ). after_payload (g ∷ outer) k behind (payload_at k (wire_code payload) behind)) place
-      ∙ ap (after_payload (g ∷ outer) (at + length tag) behind) (payload_again (at + length tag) lead text payload p rest)
-      ∙ state_at (g ∷ outer) rest (omega (arith, far)))
+    tagged g outer at t fits.0 behind
+    ∙ cond-false _ _ _ (ne_eqb (wire_code payload) 3 fits.1)
+    ∙ cond-false _ _ _ (ne_eqb (wire_code payload) 4 fits.2)
+    ∙ ap (λ (k : ℕ). after_payload (g ∷ outer) k behind (payload_at k (wire_code payload) behind)) place
+    ∙ ap (after_payload (g ∷ outer) (at + length tag) behind) (payload_again (at + length tag) lead text payload p rest)
+    ∙ state_at (g ∷ outer) rest (omega (arith, far)))
 
 start_goes : (g : OpenGroup) (outer : List OpenGroup) (at : ℕ) {number : ℕ} (tag rest : List ℕ) → IsTag tag number 3 → length (g ∷ outer) < 100
     → Goes (run (g ∷ outer) at (tag ++ rest)) (run (record { number = number; place = at } ∷ (g ∷ outer)) (at + length tag) rest)
 start_goes g outer at {number} tag rest t room =
     one_step (
-      tagged g outer at t (omega arith) rest
-      ∙ cond-false _ _ _ (ne_eqb (length (g ∷ outer)) 100 (λ e. absurd (omega arith)))
-      ∙ state_at (record { number = number; place = at } ∷ (g ∷ outer)) rest (ap (λ (k : ℕ). at + k) (passed_is tag rest)))
+    tagged g outer at t (omega arith) rest
+    ∙ cond-false _ _ _ (ne_eqb (length (g ∷ outer)) 100 (λ e. absurd (omega arith)))
+    ∙ state_at (record { number = number; place = at } ∷ (g ∷ outer)) rest (ap (λ (k : ℕ). at + k) (passed_is tag rest)))
 
 pub end_goes : (g : OpenGroup) (outer : List OpenGroup) (at : ℕ) (tag rest : List ℕ) → IsTag tag g.number 4
     → Goes (run (g ∷ outer) at (tag ++ rest)) (run outer (at + length tag) rest)
 end_goes g outer at tag rest t =
     one_step (
-      tagged g outer at t (omega arith) rest
-      ∙ cond-true _ _ _ (eq-eqb g.number g.number refl)
-      ∙ state_at outer rest (ap (λ (k : ℕ). at + k) (passed_is tag rest)))
+    tagged g outer at t (omega arith) rest
+    ∙ cond-true _ _ _ (eq-eqb g.number g.number refl)
+    ∙ state_at outer rest (ap (λ (k : ℕ). at + k) (passed_is tag rest)))
 
 -- the same with the bytes and the place in another form
 at_bytes : {groups : List OpenGroup} {at : ℕ} {t : State} {a b : List ℕ} → a ≡ b → Goes (run groups at b) t → Goes (run groups at a) t
@@ -124,14 +124,14 @@ body_goes {body = body} (plain_field payload tag lead text others e t p x) g out
     let regrouped : body ++ rest ≡ tag ++ (lead ++ (text ++ (others ++ rest))) = rw e (simp append_assoc) in
     let len : length body ≡ length tag + (length lead + (length text + length others)) = rw e (simp length-append) in
     at_bytes regrouped (goes_then (plain_goes g outer at payload tag lead text (others ++ rest) t p)
-      (to_place (omega (arith, len)) (body_goes x g outer (at + length tag + length lead + length text) rest room)))
+    (to_place (omega (arith, len)) (body_goes x g outer (at + length tag + length lead + length text) rest room)))
 body_goes {body = body} (group_field {depth} {number} start inner end others e s x t y) g outer at rest room =
     let regrouped : body ++ rest ≡ start ++ (inner ++ (end ++ (others ++ rest))) = rw e (simp append_assoc) in
     let len : length body ≡ length start + (length inner + (length end + length others)) = rw e (simp length-append) in
     at_bytes regrouped (goes_then (start_goes g outer at start (inner ++ (end ++ (others ++ rest))) s (omega arith))
-      (goes_then (body_goes x (record { number = number; place = at }) (g ∷ outer) (at + length start) (end ++ (others ++ rest)) (omega arith))
-      (goes_then (end_goes (record { number = number; place = at }) (g ∷ outer) (at + length start + length inner) end (others ++ rest) t)
-      (to_place (omega (arith, len)) (body_goes y g outer (at + length start + length inner + length end) rest room)))))
+    (goes_then (body_goes x (record { number = number; place = at }) (g ∷ outer) (at + length start) (end ++ (others ++ rest)) (omega arith))
+    (goes_then (end_goes (record { number = number; place = at }) (g ∷ outer) (at + length start + length inner) end (others ++ rest) t)
+    (to_place (omega (arith, len)) (body_goes y g outer (at + length start + length inner + length end) rest room)))))
 
 -- ---- a fault stops the machine
 
@@ -148,11 +148,11 @@ fault_goes {at} {g} {outer} {rest} (bad_payload {number = number} {code = code} 
     let fits = payload_code_plain f in
     let place : at + passed (tag ++ after) after ≡ at + length tag = ap (λ (k : ℕ). at + k) (passed_is tag after) in
     at_bytes parts (one_step (
-      tagged g outer at t fits.0 after
-      ∙ cond-false _ _ _ (ne_eqb code 3 fits.1)
-      ∙ cond-false _ _ _ (ne_eqb code 4 fits.2)
-      ∙ ap (λ (k : ℕ). after_payload (g ∷ outer) k after (payload_at k code after)) place
-      ∙ ap (after_payload (g ∷ outer) (at + length tag) after) (payload_fault f)))
+    tagged g outer at t fits.0 after
+    ∙ cond-false _ _ _ (ne_eqb code 3 fits.1)
+    ∙ cond-false _ _ _ (ne_eqb code 4 fits.2)
+    ∙ ap (λ (k : ℕ). after_payload (g ∷ outer) k after (payload_at k code after)) place
+    ∙ ap (after_payload (g ∷ outer) (at + length tag) after) (payload_fault f)))
 fault_goes {at} {g} {outer} {rest} (lone_end tag after parts t other) =
     at_bytes parts (one_step (tagged g outer at t (omega arith) after ∙ cond-false _ _ _ (ne_eqb _ _ other)))
 fault_goes {at} {g} {outer} {rest} (too_deep tag after parts t full) =
@@ -196,7 +196,7 @@ opened_goes {at} {front} {g} (inside {outer = next ∷ outer} before tag body pa
       is_tag = h.is_tag;
       place = h.place;
       goes = at_bytes (simp append_assoc) (goes_then h.goes
-        (goes_then (start_goes next outer (at + length before) tag (body ++ rest) t room)
-        (subst (λ (x : OpenGroup). Goes (run (x ∷ (next ∷ outer)) (at + length before + length tag) (body ++ rest)) (run (g ∷ (next ∷ outer)) (at + length front) rest)) (same_group g (at + length before) place)
+          (goes_then (start_goes next outer (at + length before) tag (body ++ rest) t room)
+          (subst (λ (x : OpenGroup). Goes (run (x ∷ (next ∷ outer)) (at + length before + length tag) (body ++ rest)) (run (g ∷ (next ∷ outer)) (at + length front) rest)) (same_group g (at + length before) place)
           (to_place (omega (arith, len)) (body_goes b g (next ∷ outer) (at + length before + length tag) rest (omega arith))))));
     }

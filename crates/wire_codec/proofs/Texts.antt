@@ -46,9 +46,9 @@ base_128_least (suc enough) n fits (more {b} {high} {bytes = bytes} le lt s e) =
     elim (cases_lt n 128) [
       | inl small ↦ rw (one_byte enough n small) (omega arith)
       | inr large ↦
-        let high_is : high ≡ n / 128 = omega arith in
-        let others : Spells bytes (n / 128) = subst (λ (k : ℕ). Spells bytes k) high_is s in
-        rw (more_bytes enough n large) (omega (arith, base_128_least enough (n / 128) (high_fits enough n fits) others))
+          let high_is : high ≡ n / 128 = omega arith in
+          let others : Spells bytes (n / 128) = subst (λ (k : ℕ). Spells bytes k) high_is s in
+          rw (more_bytes enough n large) (omega (arith, base_128_least enough (n / 128) (high_fits enough n fits) others))
     ]
 
 base_128_length : (enough n : ℕ) → length (base_128 enough n) ≤ enough

@@ -25,7 +25,6 @@ pub goes_on_push : (bytes : List ℕ) (b : ℕ) → GoesOn bytes → 128 ≤ b �
 goes_on_push [] b h le = (le, tt)
 goes_on_push (x ∷ bytes) b h le = (h.0, goes_on_push bytes b h.1 le)
 
-
 -- ---- the numbers
 
 wrapped : (v x y n m : ℕ) → ((v + x % m) % m + (y % m) * n) % m ≡ (v + x + y * n) % m
@@ -72,8 +71,8 @@ in_varint_more {old} {mid} {now} {i} {v} {w} {v'} {w'} {b} h p le lt ev ew = rec
   goes_on = goes_on_push h.front b h.goes_on le;
   counted = omega (arith, length-append h.front (b ∷ []), h.counted);
   completes = λ tail n s.
-    let all = h.completes (b ∷ tail) (b - 128 + 128 * n) (more le lt s (with_high b n le)) in
-    (all.0, rw append_assoc all.1, rw (ev, ew) (wrapped v (w * (b % 128)) (w * 128) n (2 ^ 64) ∙ ap (λ (k : ℕ). k % 2 ^ 64) (carried v w b n le lt) ∙ all.2));
+      let all = h.completes (b ∷ tail) (b - 128 + 128 * n) (more le lt s (with_high b n le)) in
+      (all.0, rw append_assoc all.1, rw (ev, ew) (wrapped v (w * (b % 128)) (w * 128) n (2 ^ 64) ∙ ap (λ (k : ℕ). k % 2 ^ 64) (carried v w b n le lt) ∙ all.2));
 }
 
 pub in_varint_last : {old mid now : CursorSeen} {i v w v' b : ℕ} → InVarint old mid i v w → Passes mid (b ∷ []) now → i < 10 → b < 128

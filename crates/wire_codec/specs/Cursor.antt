@@ -51,8 +51,8 @@ pub record PassesField (old : CursorSeen) (f : FieldSeen) (new : CursorSeen) : T
 -- in an open group, reading goes on behind a plain field, or behind a tag that begins or ends a group
 pub data Steps : CursorSeen → List OpenGroup → CursorSeen → List OpenGroup → Type 0 where
   over_field : {old new : CursorSeen} {groups : List OpenGroup} {number : ℕ} (payload : PayloadSeen) (tag lead text : List ℕ)
-    → IsTag tag number (wire_code payload) → IsPlain lead text payload → Passes old (tag ++ (lead ++ text)) new → Steps old groups new groups
+      → IsTag tag number (wire_code payload) → IsPlain lead text payload → Passes old (tag ++ (lead ++ text)) new → Steps old groups new groups
   into_group : {old new : CursorSeen} {groups : List OpenGroup} {group : OpenGroup} (tag : List ℕ)
-    → IsTag tag group.number 3 → group.place ≡ old.place → length groups < 100 → Passes old tag new → Steps old groups new (group ∷ groups)
+      → IsTag tag group.number 3 → group.place ≡ old.place → length groups < 100 → Passes old tag new → Steps old groups new (group ∷ groups)
   out_of_group : {old new : CursorSeen} {groups : List OpenGroup} {group : OpenGroup} (tag : List ℕ)
-    → IsTag tag group.number 4 → Passes old tag new → Steps old (group ∷ groups) new groups
+      → IsTag tag group.number 4 → Passes old tag new → Steps old (group ∷ groups) new groups

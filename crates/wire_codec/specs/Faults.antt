@@ -32,7 +32,7 @@ pub data PayloadFault : ℕ → ℕ → List ℕ → WireError → Type 0 where
 pub data Opened : ℕ → List ℕ → List OpenGroup → Type 0 where
   shut : {at : ℕ} → Opened at [] []
   inside : {at : ℕ} {bytes : List ℕ} {group : OpenGroup} {outer : List OpenGroup} (before tag body : List ℕ) → bytes ≡ before ++ (tag ++ body)
-    → Opened at before outer → group.place ≡ at + length before → IsTag tag group.number 3 → length outer < 100 → IsBody (99 - length outer) body → Opened at bytes (group ∷ outer)
+      → Opened at before outer → group.place ≡ at + length before → IsTag tag group.number 3 → length outer < 100 → IsBody (99 - length outer) body → Opened at bytes (group ∷ outer)
 
 -- an end tag of this number ends the innermost open group
 abbrev pub Closes : ℕ → List OpenGroup → Type 0
@@ -43,11 +43,11 @@ Closes number (group ∷ outer) = group.number ≡ number
 pub data FaultAt : ℕ → List OpenGroup → List ℕ → WireError → Type 0 where
   bad_tag : {at : ℕ} {groups : List OpenGroup} {rest : List ℕ} {e : WireError} → 0 < length rest → TagFault at rest e → FaultAt at groups rest e
   bad_payload : {at number code : ℕ} {groups : List OpenGroup} {rest : List ℕ} {e : WireError} (tag more : List ℕ) → rest ≡ tag ++ more
-    → IsTag tag number code → PayloadFault (at + length tag) code more e → FaultAt at groups rest e
+      → IsTag tag number code → PayloadFault (at + length tag) code more e → FaultAt at groups rest e
   lone_end : {at number : ℕ} {groups : List OpenGroup} {rest : List ℕ} (tag more : List ℕ) → rest ≡ tag ++ more
-    → IsTag tag number 4 → ¬ (Closes number groups) → FaultAt at groups rest (LoneEndGroup at)
+      → IsTag tag number 4 → ¬ (Closes number groups) → FaultAt at groups rest (LoneEndGroup at)
   too_deep : {at number : ℕ} {groups : List OpenGroup} {rest : List ℕ} (tag more : List ℕ) → rest ≡ tag ++ more
-    → IsTag tag number 3 → length groups ≡ 100 → FaultAt at groups rest (TooDeep at)
+      → IsTag tag number 3 → length groups ≡ 100 → FaultAt at groups rest (TooDeep at)
   no_end : {at : ℕ} {group : OpenGroup} {outer : List OpenGroup} → FaultAt at (group ∷ outer) [] (GroupOpen group.place)
 
 -- The bytes, whose first has the place, begin with no field, and this is the first fault in them.

@@ -9,9 +9,9 @@ use Rattle.wire_codec.specs.Payload.{PayloadSeen, payload_seen, group, wire_code
 pub data IsBody : ℕ → List ℕ → Type 0 where
   no_field : {depth : ℕ} → IsBody depth []
   plain_field : {depth number : ℕ} {bytes : List ℕ} (payload : PayloadSeen) (tag lead text rest : List ℕ) → bytes ≡ tag ++ (lead ++ (text ++ rest))
-    → IsTag tag number (wire_code payload) → IsPlain lead text payload → IsBody depth rest → IsBody depth bytes
+      → IsTag tag number (wire_code payload) → IsPlain lead text payload → IsBody depth rest → IsBody depth bytes
   group_field : {depth number : ℕ} {bytes : List ℕ} (start body end rest : List ℕ) → bytes ≡ start ++ (body ++ (end ++ rest))
-    → IsTag start number 3 → IsBody depth body → IsTag end number 4 → IsBody (suc depth) rest → IsBody (suc depth) bytes
+      → IsTag start number 3 → IsBody depth body → IsTag end number 4 → IsBody (suc depth) rest → IsBody (suc depth) bytes
 
 -- what follows the start tag of a group of this number: fields, and the end tag of its number
 pub record IsGroup (number : ℕ) (text : List ℕ) : Type 0 where
@@ -50,4 +50,4 @@ pub record IsField (at : ℕ) (bytes : List ℕ) (f : FieldSeen) : Type 0 where
 pub data Fields : ℕ → List ℕ → List FieldSeen → Type 0 where
   none : {at : ℕ} → Fields at [] []
   more : {at : ℕ} {bytes : List ℕ} {f : FieldSeen} {fields : List FieldSeen} (front rest : List ℕ) → bytes ≡ front ++ rest
-    → IsField at front f → Fields (at + length front) rest fields → Fields at bytes (f ∷ fields)
+      → IsField at front f → Fields (at + length front) rest fields → Fields at bytes (f ∷ fields)

@@ -24,3 +24,6 @@ pub use payload::Payload;
 pub use reader::WireReader;
 pub use wire_error::WireError;
 pub use writer::WireWriter;
+
+#[cfg(test)]
+mod tests;

@@ -1,5 +1,5 @@
 /// What follows a field's tag (Protocol Buffers encoding guide, "Message Structure").
-#[derive(Clone, Copy, Debug)]
+#[derive(Clone, Copy, Debug, PartialEq, Eq)]
 pub enum Payload<'a> {
     /// Wire type 0: the low 64 bits of a varint.
     Varint(u64),

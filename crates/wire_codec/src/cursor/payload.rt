@@ -35,9 +35,7 @@ impl<'a> Cursor<'a> {
         let Some(b) = self.take(8) else {
             return Err(WireError::PastEnd { place });
         };
-        Ok(u64::from_le_bytes([
-            b[0], b[1], b[2], b[3], b[4], b[5], b[6], b[7],
-        ]))
+        Ok(u64::from_le_bytes([b[0], b[1], b[2], b[3], b[4], b[5], b[6], b[7]]))
     }
 
     fn four(&mut self) -> Result<u32, WireError>
