@@ -1,9 +1,9 @@
 -- Counting the fields of a message.
-use Rattle.std.proofs.Common.{◌≡◌, ℕ, ◌+◌, ◌≤◌, inl, inr, List, [], ◌∷◌, ◌++◌, length, Result, Ok, Err, Option, None, refl, sym, ap, subst, ◌∙◌, arith}
+use Rattle.std.proofs.Common.{◌≡◌, ℕ, ◌+◌, ◌≤◌, List, [], ◌∷◌, ◌++◌, length, Result, Ok, Err, None, refl, sym, ap, ◌∙◌, arith}
 use Rattle.std.proofs.lemmas.List.{length-append}
 use Rattle.std.specs.Prelude.{MatchResult}
 use Rattle.wire_codec.specs.declared.wire_error.WireError.{WireError}
-use Rattle.wire_codec.specs.Fields.{FieldSeen, Fields, none}
+use Rattle.wire_codec.specs.Fields.{FieldSeen, Fields}
 use Rattle.wire_codec.specs.Faults.{FirstFault}
 use Rattle.wire_codec.specs.Reader.{ReaderSeen, TakesField, IsAtEnd, HasRead}
 use Rattle.wire_codec.specs.Message.{HasCount}

@@ -1,6 +1,6 @@
 -- The stack of open groups, and one step in an open group after the other.
-use Rattle.std.proofs.Common.{◌≡◌, ℕ, suc, zero, ◌+◌, ◌-◌, ◌<◌, ◌≤◌, List, [], ◌∷◌, ◌++◌, length, take, reverse, get_or, refl, sym, ap, subst, ◌∙◌, append_assoc, arith}
-use Rattle.std.proofs.lemmas.List.{append-nil, length-append, length-take, length-reverse, reverse-append, take_more, nil_from_length}
+use Rattle.std.proofs.Common.{◌≡◌, ℕ, suc, ◌+◌, ◌-◌, ◌<◌, ◌≤◌, List, [], ◌∷◌, ◌++◌, length, take, reverse, get_or, refl, sym, ap, subst, ◌∙◌, append_assoc, arith}
+use Rattle.std.proofs.lemmas.List.{append-nil, length-append, length-take, length-reverse, reverse-append, take_more}
 use Rattle.wire_codec.specs.declared.open_group.OpenGroup.{OpenGroup}
 use Rattle.wire_codec.specs.declared.wire_error.WireError.{WireError}
 use Rattle.wire_codec.specs.declared.wire_error.WireError.TheVariants.{LoneEndGroup, GroupOpen, TooDeep}

@@ -1,8 +1,8 @@
 -- What bytes begin with is one thing: one field, or one fault.
-use Rattle.std.proofs.Common.{◌≡◌, ℕ, ◌+◌, ◌<◌, ◌≤◌, Bool, true, false, cond, eqb, List, [], ◌∷◌, ◌++◌, length, Result, Ok, Err, refl, sym, ap, subst, ◌∙◌, append_assoc, arith}
+use Rattle.std.proofs.Common.{◌≡◌, ℕ, ◌+◌, ◌<◌, Bool, true, false, eqb, List, [], ◌∷◌, ◌++◌, length, Result, Ok, Err, refl, sym, ap, subst, ◌∙◌, append_assoc, arith}
 use Rattle.std.specs.Bool.{MatchBool}
-use Rattle.std.proofs.lemmas.Bool.{eq-eqb, ne_eqb, MatchBool-at_true, MatchBool-at_false}
-use Rattle.std.proofs.lemmas.List.{append-nil, length-append, append_cancel_right}
+use Rattle.std.proofs.lemmas.Bool.{ne_eqb}
+use Rattle.std.proofs.lemmas.List.{length-append, append_cancel_right}
 use Rattle.wire_codec.specs.declared.open_group.OpenGroup.{OpenGroup}
 use Rattle.wire_codec.specs.declared.wire_error.WireError.{WireError}
 use Rattle.wire_codec.specs.declared.wire_error.WireError.TheVariants.{LoneEndGroup}
@@ -10,7 +10,7 @@ use Rattle.wire_codec.specs.Tag.{IsTag}
 use Rattle.wire_codec.specs.Payload.{PayloadSeen, varint, eight, delimited, group, four, wire_code, IsPlain}
 use Rattle.wire_codec.specs.Fields.{IsGroup, FieldSeen, IsField, IsPayload, Fields}
 use Rattle.wire_codec.specs.Fields as fields
-use Rattle.wire_codec.specs.Faults.{Opened, shut, inside, FaultAt, bad_tag, bad_payload, lone_end, too_deep, no_end, FieldFault, FirstFault}
+use Rattle.wire_codec.specs.Faults.{Opened, shut, inside, FaultAt, bad_tag, bad_payload, lone_end, too_deep, FieldFault}
 use Rattle.wire_codec.proofs.Groups.{tag_length}
 use Rattle.wire_codec.proofs.Reading.{Read, tag_at, tag_again, tag_fault, passed, passed_is, payload_at, payload_again, payload_fault}
 use Rattle.wire_codec.proofs.Machine.{Goes, run, stop, here, then, goes_then, goes_once, plain_code_fits, payload_code_plain, body_goes, end_goes, fault_goes, opened_goes}

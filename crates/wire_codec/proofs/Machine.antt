@@ -1,14 +1,14 @@
 -- Passing the rest of a group as a machine: what it comes to is one thing.
-use Rattle.std.proofs.Common.{◌≡◌, ℕ, zero, suc, ◌+◌, ◌-◌, ◌<◌, ◌≤◌, Bool, true, false, cond, eqb, List, [], ◌∷◌, ◌++◌, length, Result, Ok, Err, refl, sym, ap, subst, ◌∙◌, append_assoc, arith}
+use Rattle.std.proofs.Common.{◌≡◌, ℕ, ◌+◌, ◌<◌, ◌≤◌, cond, eqb, List, [], ◌∷◌, ◌++◌, length, Result, Ok, Err, refl, sym, ap, subst, ◌∙◌, append_assoc, arith}
 use Rattle.std.proofs.lemmas.Bool.{eq-eqb, ne_eqb, cond-true, cond-false}
-use Rattle.std.proofs.lemmas.List.{append-nil, length-append}
+use Rattle.std.proofs.lemmas.List.{length-append}
 use Rattle.wire_codec.specs.declared.open_group.OpenGroup.{OpenGroup}
 use Rattle.wire_codec.specs.declared.wire_error.WireError.{WireError}
 use Rattle.wire_codec.specs.declared.wire_error.WireError.TheVariants.{LoneEndGroup, GroupOpen, TooDeep}
 use Rattle.wire_codec.specs.Tag.{IsTag}
 use Rattle.wire_codec.specs.Payload.{PayloadSeen, varint, eight, delimited, group, four, wire_code, IsPlain}
 use Rattle.wire_codec.specs.Fields.{IsBody, no_field, plain_field, group_field}
-use Rattle.wire_codec.specs.Faults.{PayloadFault, varint_fault, eight_cut, length_fault, text_cut, four_cut, Opened, shut, inside, Closes, FaultAt, bad_tag, bad_payload, lone_end, too_deep, no_end}
+use Rattle.wire_codec.specs.Faults.{PayloadFault, varint_fault, eight_cut, length_fault, text_cut, four_cut, Opened, shut, inside, FaultAt, bad_tag, bad_payload, lone_end, too_deep, no_end}
 use Rattle.wire_codec.proofs.Groups.{tag_length}
 use Rattle.wire_codec.proofs.Reading.{Read, tag_at, tag_again, tag_fault, passed, passed_is, payload_at, payload_again, payload_fault}
 

@@ -1,14 +1,12 @@
 -- A field that was passed, or the fault that it begins with.
-use Rattle.std.proofs.Common.{◌≡◌, ℕ, ◌+◌, List, [], ◌∷◌, ◌++◌, length, refl, sym, ap, subst, ◌∙◌, append_assoc, arith}
-use Rattle.std.proofs.lemmas.List.{append-nil, length-append}
-use Rattle.wire_codec.specs.declared.open_group.OpenGroup.{OpenGroup}
+use Rattle.std.proofs.Common.{◌≡◌, ℕ, ◌+◌, List, [], ◌++◌, refl, sym, subst, arith}
 use Rattle.wire_codec.specs.declared.wire_error.WireError.{WireError}
 use Rattle.wire_codec.specs.declared.wire_error.WireError.TheVariants.{LoneEndGroup}
 use Rattle.wire_codec.specs.Tag.{IsTag}
-use Rattle.wire_codec.specs.Payload.{PayloadSeen, varint, eight, delimited, group, four, wire_code, IsPlain}
-use Rattle.wire_codec.specs.Fields.{IsGroup, IsPayload, FieldSeen, IsField}
+use Rattle.wire_codec.specs.Payload.{PayloadSeen, varint, eight, delimited, group, four, IsPlain}
+use Rattle.wire_codec.specs.Fields.{IsPayload}
 use Rattle.wire_codec.specs.Faults.{shut, FaultAt, lone_end, FieldFault}
-use Rattle.wire_codec.specs.Cursor.{CursorSeen, Passes, PassesTag, PassesPayload, PassesGroup, PassesField}
+use Rattle.wire_codec.specs.Cursor.{CursorSeen, PassesTag, PassesPayload, PassesGroup, PassesField}
 use Rattle.wire_codec.proofs.Varints.{passes_then}
 
 pub first_fault_at : {at : ℕ} {bytes : List ℕ} {e : WireError} → FaultAt at [] bytes e → FieldFault at bytes e

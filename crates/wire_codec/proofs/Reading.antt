@@ -1,12 +1,12 @@
 -- Reading as functions: of a varint, a tag and a payload. What stands in the bytes is what they give, so
 -- nothing else stands there.
-use Rattle.std.proofs.Common.{◌≡◌, ℕ, zero, suc, ◌+◌, ◌-◌, ◌*◌, ◌/◌, ◌%◌, ◌^◌, ◌<◌, ◌≤◌, Bool, true, false, cond, ltb, eqb, List, [], ◌∷◌, ◌++◌, length, take, drop, Result, Ok, Err, refl, sym, ap, subst, ◌∙◌, append_assoc, arith}
-use Rattle.std.proofs.lemmas.Bool.{lt-ltb, le-ltb, eq-eqb, ne_eqb, cond-true, cond-false}
-use Rattle.std.proofs.lemmas.List.{append-nil, length-append, take_at, drop_at}
+use Rattle.std.proofs.Common.{◌≡◌, ℕ, zero, suc, ◌+◌, ◌-◌, ◌*◌, ◌/◌, ◌%◌, ◌^◌, ◌<◌, ◌≤◌, cond, ltb, eqb, List, [], ◌∷◌, ◌++◌, length, take, drop, Result, Ok, Err, refl, sym, ap, ◌∙◌, arith}
+use Rattle.std.proofs.lemmas.Bool.{lt-ltb, le-ltb, cond-true, cond-false}
+use Rattle.std.proofs.lemmas.List.{length-append, take_at, drop_at}
 use Rattle.std.specs.Int.{w32, w64, from_le_bytes}
 use Rattle.wire_codec.specs.declared.wire_error.WireError.{WireError}
 use Rattle.wire_codec.specs.declared.wire_error.WireError.TheVariants.{VarintTooLong, TagTooLarge, FieldZero, BadWireType, PastEnd}
-use Rattle.wire_codec.specs.Varint.{Spells, last, more, IsVarint, GoesOn, IsCut, IsTooLong}
+use Rattle.wire_codec.specs.Varint.{Spells, last, more, IsVarint, GoesOn}
 use Rattle.wire_codec.specs.Tag.{IsTag}
 use Rattle.wire_codec.specs.Payload.{PayloadSeen, varint, eight, delimited, group, four, wire_code, IsPlain}
 use Rattle.wire_codec.specs.Faults.{VarintFault, too_long, cut, TagFault, no_varint, too_large, no_number, no_wire_type, PayloadFault, varint_fault, eight_cut, length_fault, text_cut, four_cut}

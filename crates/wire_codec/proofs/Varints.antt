@@ -1,11 +1,9 @@
 -- Reading a varint byte by byte.
 use Rattle.std.proofs.Common.{◌≡◌, ℕ, ◌+◌, ◌-◌, ◌*◌, ◌%◌, ◌^◌, ◌<◌, ◌≤◌, List, [], ◌∷◌, ◌++◌, length, refl, sym, ap, subst, ◌∙◌, append_assoc, arith}
 use Rattle.std.proofs.Math.Nat.{add-mod, mod-mod}
-use Rattle.std.proofs.lemmas.Nat.{mul-mod_first, mul-mod}
+use Rattle.std.proofs.lemmas.Nat.{mul-mod_first}
 use Rattle.std.proofs.lemmas.List.{append-nil, length-append}
-use Rattle.std.specs.List.{AllByRecursion}
-use Rattle.wire_codec.specs.declared.wire_error.WireError.{WireError}
-use Rattle.wire_codec.specs.Varint.{Spells, last, more, IsVarint, GoesOn, IsCut, IsTooLong}
+use Rattle.wire_codec.specs.Varint.{Spells, last, more, GoesOn, IsCut, IsTooLong}
 use Rattle.wire_codec.specs.declared.wire_error.WireError.TheVariants.{VarintTooLong, PastEnd}
 use Rattle.wire_codec.specs.Cursor.{CursorSeen, Passes, PassesVarint}
 use Rattle.wire_codec.specs.Faults.{VarintFault, too_long, cut}

@@ -1,4 +1,4 @@
-use Rattle.wire_codec.proofs.Counts.{counting_none, counting_more, counting_all}
+use Rattle.wire_codec.proofs.Counts.{counting_none, counting_more}
 use Rattle.wire_codec.proofs.message.walk.Goals as goal
 
 pub loop-count-init : goal.loop-count-init

@@ -1,4 +1,3 @@
-use Rattle.std.proofs.Common.{◌≡◌, [], length, ◌<◌, refl, arith, rules}
 use Rattle.std.proofs.lemmas.Result.{err_from_is_err_and}
 use Rattle.wire_codec.specs.Faults.{bad_tag}
 use Rattle.wire_codec.proofs.Groups.{at_end_fault, payload_fault_at, deep_fault_at, lone_fault_at, stepped_over, stepped_into, stepped_out}

@@ -1,4 +1,4 @@
-use Rattle.std.proofs.Common.{arith, ◌≤◌, ◌^◌}
+use Rattle.std.proofs.Common.{arith}
 use Rattle.std.proofs.lemmas.Result.{err_from_is_err_and}
 use Rattle.wire_codec.specs.Faults.{no_varint, too_large, no_number, no_wire_type}
 use Rattle.wire_codec.proofs.cursor.Cursor.tag.Goals as goal

@@ -1,4 +1,4 @@
-use Rattle.std.proofs.Common.{ap, refl, ◌≡◌, ◌<◌, ◌*◌, ◌%◌, ◌+◌, ◌^◌, arith}
+use Rattle.std.proofs.Common.{refl, arith}
 use Rattle.wire_codec.proofs.Varints.{in_varint_none, in_varint_more, in_varint_last, cut_fault, too_long_fault}
 use Rattle.wire_codec.proofs.cursor.Cursor.varint.Goals as goal
 
