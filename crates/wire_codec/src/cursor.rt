@@ -53,12 +53,14 @@ impl<'a> Cursor<'a> {
     }
 
     /// The place of the next byte, or of the end.
+    #[inline]
     pub(crate) fn place(&self) -> u64
         ensures { result ≡ self.now.place }
     {
         self.end - self.left.len() as u64
     }
 
+    #[inline]
     pub(crate) fn is_at_end(&self) -> bool
         ensures end { OnTrue result (self.now.rest ≡ []) }
         ensures left { OnFalse result (0 < length self.now.rest) }
@@ -67,6 +69,7 @@ impl<'a> Cursor<'a> {
     }
 
     /// Passes one byte, unless none is left.
+    #[inline]
     pub(crate) fn byte(&mut self) -> Option<u8>
         ensures { MatchOption result ((self.old.rest ≡ []) × (self.new ≡ self.old)) (λ b. Passes self.old (b ∷ []) self.new) }
     {
@@ -81,6 +84,7 @@ impl<'a> Cursor<'a> {
     }
 
     /// Passes that many bytes, unless fewer are left.
+    #[inline]
     pub(crate) fn take(&mut self, count: u64) -> Option<&'a [u8]>
         ensures { MatchOption result ((length self.old.rest < count) × (self.new ≡ self.old)) (λ text. (length text.now ≡ count) × Passes self.old text.now self.new) }
     {

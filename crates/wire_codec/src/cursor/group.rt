@@ -10,7 +10,9 @@ use crate::wire_error::WireError;
 use crate::wire_type::WireType;
 
 impl<'a> Cursor<'a> {
-    /// Passes the rest of a group whose start tag was passed, up to its end tag.
+    /// Passes the rest of a group whose start tag was passed, up to its end tag. It is kept apart from
+    /// what calls it, since each entry pays for the stack.
+    #[inline(never)]
     pub(crate) fn group(&mut self, first: OpenGroup) -> Result<(), WireError>
         ensures found { OnOk result (PassesGroup self.old first.number self.new) }
         ensures fault { IfErr result (λ e. (tag : List ℕ) → IsTag tag first.number 3
