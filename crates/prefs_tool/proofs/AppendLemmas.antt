@@ -1,5 +1,5 @@
 -- The loop that appends a text piece by piece.
-use Rattle.std.proofs.Common.{◌≡◌, ◌≤◌, ℕ, Bool, IsTrue, List, ◌++◌, length}
+use Rattle.std.proofs.Common.{◌≡◌, ◌≤◌, ℕ, List, ◌++◌, length}
 use Rattle.folder_disk.specs.Contents.{Contents, IsThere, scratch_bytes}
 use Rattle.folder_disk.specs.Room.{Room}
 use Rattle.prefs_tool.specs.Outcome.{Untouched}

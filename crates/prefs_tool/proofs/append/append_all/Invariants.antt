@@ -1,4 +1,4 @@
-use Rattle.std.proofs.Common.{◌≡◌, ◌≤◌, IsTrue, length}
+use Rattle.std.proofs.Common.{◌≤◌, IsTrue, length}
 use Rattle.prefs_tool.proofs.AppendLemmas.{Appending, RoomForRest}
 use Rattle.prefs_tool.proofs.append.append_all.Given as goal
 
