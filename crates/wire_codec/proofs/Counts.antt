@@ -7,7 +7,7 @@ use Rattle.wire_codec.specs.Fields.{FieldSeen, Fields}
 use Rattle.wire_codec.specs.Faults.{FirstFault}
 use Rattle.wire_codec.specs.Reader.{ReaderSeen, TakesField, IsAtEnd, HasRead}
 use Rattle.wire_codec.specs.Message.{HasCount}
-use Rattle.wire_codec.proofs.Laws.{fields_once, fields_not_fault, first_fault_once}
+use Rattle.wire_codec.proofs.Unique.{fields_once, fields_not_fault, first_fault_once}
 use Rattle.wire_codec.proofs.Walk.{has_read_none, has_read_more, has_read_all, takes_shorter}
 
 pub record Counting (at : ℕ) (message : List ℕ) (reader : ReaderSeen) (count : ℕ) : Type 0 where

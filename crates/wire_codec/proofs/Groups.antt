@@ -77,10 +77,10 @@ body_append {b = b} (plain_field payload tag lead text rest e t p x) y =
 body_append {b = b} (group_field start body end rest e s x t z) y =
     group_field start body end (rest ++ b) (rw e (simp append_assoc)) s x t (body_append z y)
 
-one_plain : {depth number : ℕ} (payload : PayloadSeen) (tag lead text : List ℕ) → IsTag tag number (wire_code payload) → IsPlain lead text payload → IsBody depth (tag ++ (lead ++ text))
+pub one_plain : {depth number : ℕ} (payload : PayloadSeen) (tag lead text : List ℕ) → IsTag tag number (wire_code payload) → IsPlain lead text payload → IsBody depth (tag ++ (lead ++ text))
 one_plain payload tag lead text t p = plain_field payload tag lead text [] (ap (λ (x : List ℕ). tag ++ (lead ++ x)) (sym (append-nil text))) t p no_field
 
-one_group : {depth number : ℕ} {start body end : List ℕ} → IsTag start number 3 → IsBody depth body → IsTag end number 4 → IsBody (suc depth) (start ++ (body ++ end))
+pub one_group : {depth number : ℕ} {start body end : List ℕ} → IsTag start number 3 → IsBody depth body → IsTag end number 4 → IsBody (suc depth) (start ++ (body ++ end))
 one_group {start = start} {body = body} {end = end} s b t = group_field start body end [] (ap (λ (x : List ℕ). start ++ (body ++ x)) (sym (append-nil end))) s b t no_field
 
 -- ---- the inside of a group

@@ -3,7 +3,8 @@ pub mod Groups
 pub mod OneField
 pub mod Reading
 pub mod Machine
-pub mod Laws
+pub mod Unique
 pub mod Walk
 pub mod Texts
 pub mod Counts
+pub mod Bodies

@@ -22,7 +22,7 @@ first_fault_at {at} {bytes} {e} f = record {
 pub lone_fault : {old mid : CursorSeen} {number place : ℕ} → PassesTag old number 4 mid → place ≡ old.place → FieldFault old.place old.rest (LoneEndGroup place)
 lone_fault {old} {mid} h at = rw at (first_fault_at (lone_end h.text mid.rest h.passes.rest h.is_tag (λ closes. closes)))
 
-is_payload_plain : (number : ℕ) (lead text : List ℕ) (payload : PayloadSeen) → IsPlain lead text payload → IsPayload number lead text payload
+pub is_payload_plain : (number : ℕ) (lead text : List ℕ) (payload : PayloadSeen) → IsPlain lead text payload → IsPayload number lead text payload
 is_payload_plain number lead text (varint n) p = p
 is_payload_plain number lead text (eight n) p = p
 is_payload_plain number lead text (delimited bytes) p = p

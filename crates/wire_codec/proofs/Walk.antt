@@ -6,7 +6,7 @@ use Rattle.wire_codec.specs.Payload.{PayloadSeen, varint, eight, delimited, grou
 use Rattle.wire_codec.specs.Fields.{FieldSeen, IsField, IsPayload, Fields, none, more}
 use Rattle.wire_codec.specs.Faults.{FieldFault, FirstFault}
 use Rattle.wire_codec.specs.Reader.{ReaderSeen, TakesField, IsAtEnd, Next, payload_length, PayloadFits, HasRead}
-use Rattle.wire_codec.proofs.Laws.{field_once, field_not_fault, fault_once, field_some, fault_some}
+use Rattle.wire_codec.proofs.Unique.{field_once, field_not_fault, fault_once, field_some, fault_some}
 
 -- ---- one more field
 

@@ -21,6 +21,7 @@ pub record IsGroup (number : ℕ) (text : List ℕ) : Type 0 where
   pub fields : IsBody 99 body
   pub closed : IsTag end number 4
 
+-- the text is the payload of a field of this number, and lead is what stands between it and the tag
 abbrev pub IsPayload : ℕ → List ℕ → List ℕ → PayloadSeen → Type 0
 IsPayload number lead text group = (lead ≡ []) × IsGroup number text
 IsPayload number lead text plain = IsPlain lead text plain

@@ -40,7 +40,7 @@ IsWritable (delimited bytes) = length bytes < 2 ^ 64
 IsWritable group = ⊥
 IsWritable (four n) = n < 2 ^ 32
 
--- the field that is written behind the place
+-- the field that is written, where its tag's first byte has the place
 abbrev pub written_field : ℕ → ℕ → PayloadSeen → FieldSeen
 written_field at number payload = record {
   number = number;

@@ -5,6 +5,7 @@
 
 mod cursor;
 mod field;
+mod laws;
 mod message;
 mod open_group;
 mod open_groups;
@@ -17,9 +18,11 @@ mod writer;
 mod writing;
 
 pub use field::Field;
-pub use message::{
-    count_fields, one_first_fault, one_first_field, one_reading, shortest_varint, written_is_read,
+pub use laws::{
+    group_holds_fields, one_first_fault, one_first_field, one_reading, shortest_varint,
+    written_is_read,
 };
+pub use message::count_fields;
 pub use payload::Payload;
 pub use reader::WireReader;
 pub use wire_error::WireError;

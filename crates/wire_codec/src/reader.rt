@@ -28,7 +28,8 @@ impl<'a> Model for WireReader<'a> {
 }
 
 impl<'a> WireReader<'a> {
-    /// At the first byte of a message, whose place is `offset`.
+    /// At the first byte of a message, whose place is `offset`. Together with the number of bytes that
+    /// is at most 2^64 - 1.
     pub fn new(bytes: &'a [u8], offset: u64) -> WireReader<'a>
         requires { offset + length bytes.now < 2 ^ 64 }
         ensures { result ≡ record { rest = bytes.entry.now; place = offset; failed = None } }
@@ -39,8 +40,7 @@ impl<'a> WireReader<'a> {
         }
     }
 
-    /// The place of the next field's tag, or of the message's end. Of a field of wire type 2 that was
-    /// just given it is the place behind the last byte of its payload.
+    /// The place of the next field's tag, or of the message's end.
     pub fn place(&self) -> u64
         ensures { result ≡ self.now.place }
     {

@@ -6,10 +6,14 @@ use std::test::Fail;
 /// Each fault of a whole message, with its place.
 #[test]
 fn faults_have_their_places(rt: HostRuntime) {
-    let rows: [(&[u8], WireError); 22] = [
+    let rows: [(&[u8], WireError); 23] = [
         // A varint of more than ten bytes, and one that is cut.
         (
             &[0x08, 128, 128, 128, 128, 128, 128, 128, 128, 128, 128, 0],
+            WireError::VarintTooLong { place: 1 },
+        ),
+        (
+            &[0x0a, 128, 128, 128, 128, 128, 128, 128, 128, 128, 128, 0],
             WireError::VarintTooLong { place: 1 },
         ),
         (&[128; 10], WireError::VarintTooLong { place: 0 }),

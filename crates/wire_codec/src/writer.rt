@@ -9,7 +9,8 @@ use std::marker::Model;
 use store_traits::FileBytes;
 
 /// Writes the fields of a message one after the other. Seen as the bytes so far. Varints are as short
-/// as can be. A call that finds no memory leaves the bytes as they were.
+/// as can be. A field's number is from 1 to 2^29 - 1. A call that finds no memory leaves the bytes as
+/// they were.
 #[derive(Drop)]
 pub struct WireWriter {
     bytes: Vec<u8>,
