@@ -3,28 +3,40 @@
 #![tactic(auto)]
 
 use anyhow::{Context, Result, bail};
+use prefs_model::PrefMap;
+use prefs_proto::PrefsCodec;
+use std::alloc::Global;
 use std::hint::black_box;
 use std::time::Instant;
 use std::{env, fs};
+use store_traits::Decoded;
 
-/// What is done once to the bytes of the file.
+/// What is done once.
 #[derive(Clone, Copy, Debug)]
 enum Work {
-    /// Walks the fields of the message.
+    /// Walks the fields of the file.
     Walk,
+    /// Reads the file as settings.
+    Decode,
+    /// Writes the settings of the file.
+    Encode,
 }
 
 impl Work {
     fn named(name: &str) -> Option<Work> {
         match name {
             "walk" => Some(Work::Walk),
+            "decode" => Some(Work::Decode),
+            "encode" => Some(Work::Encode),
             _ => None,
         }
     }
 
-    fn done_on(self, bytes: &[u8]) -> Result<u64> {
+    fn once(self, alloc: Global, bytes: &[u8], map: &PrefMap) -> Result<u64> {
         match self {
             Work::Walk => Ok(wire_codec::count_fields(bytes, 0)?),
+            Work::Decode => Ok(settings_of(alloc, bytes)?.pairs().len() as u64),
+            Work::Encode => Ok(PrefsCodec.encode(alloc, map)?.as_slice().len() as u64),
         }
     }
 }
@@ -41,11 +53,7 @@ fn main(rt: HostRuntime) -> Result<()> {
         bail!("no such work");
     };
     let path = words.next().context("which file?")?;
-    let times = words
-        .next()
-        .context("how often?")?
-        .parse::<u32>()
-        .context("how often?")?;
+    let times = words.next().context("how often?")?.parse::<u32>().context("how often?")?;
     let bytes = fs::read(&rt, path.as_str())?;
     let nanoseconds = timed(&rt, work, &bytes, times)?;
     let len = bytes.len();
@@ -54,9 +62,18 @@ fn main(rt: HostRuntime) -> Result<()> {
 }
 
 fn timed(rt: &HostRuntime, work: Work, bytes: &[u8], times: u32) -> Result<u128> {
+    let alloc = rt.alloc();
+    let map = settings_of(alloc, bytes)?;
     let start = Instant::now(rt)?;
     for _ in 0..times {
-        let _ = black_box(work.done_on(bytes)?);
+        let _ = black_box(work.once(alloc, bytes, &map)?);
     }
     Ok(start.elapsed(rt)?.as_nanos())
+}
+
+fn settings_of(alloc: Global, bytes: &[u8]) -> Result<PrefMap> {
+    match PrefsCodec.decode(alloc, bytes)? {
+        Decoded::Good(map) => Ok(map),
+        Decoded::Corrupt => bail!("the file holds no settings"),
+    }
 }
