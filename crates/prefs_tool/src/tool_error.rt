@@ -4,6 +4,7 @@ ghost use Rattle.prefs_tool.specs.Status.{status_of};
 
 use crate::Status;
 use std::alloc::AllocError;
+use scratch_rename::{Filled, Fresh, Renamed, Synced};
 use store_traits::Failed;
 
 /// Why a command did not go well.
@@ -32,6 +33,39 @@ impl From<Failed> for ToolError {
     ghost from_gives = { λ _ e. e ≡ Storage };
 
     fn from(_: Failed) -> ToolError {
+        ToolError::Storage
+    }
+}
+
+// A plan comes back where the folder failed.
+impl From<Fresh> for ToolError {
+    ghost from_gives = { λ _ e. e ≡ Storage };
+
+    fn from(_: Fresh) -> ToolError {
+        ToolError::Storage
+    }
+}
+
+impl From<Filled> for ToolError {
+    ghost from_gives = { λ _ e. e ≡ Storage };
+
+    fn from(_: Filled) -> ToolError {
+        ToolError::Storage
+    }
+}
+
+impl From<Synced> for ToolError {
+    ghost from_gives = { λ _ e. e ≡ Storage };
+
+    fn from(_: Synced) -> ToolError {
+        ToolError::Storage
+    }
+}
+
+impl From<Renamed> for ToolError {
+    ghost from_gives = { λ _ e. e ≡ Storage };
+
+    fn from(_: Renamed) -> ToolError {
         ToolError::Storage
     }
 }

@@ -18,7 +18,6 @@ fn folder_with(alloc: Global, failing: Vec<Planned>) -> Result<MemFolder, Fail> 
 }
 
 #[test]
-#[tactic(auto, using(crate::proofs::FillingLemmas::piece_le))]
 fn a_text_of_two_pieces_becomes_main(rt: HostRuntime) -> Result<(), Fail> {
     let alloc = rt.alloc();
     let mut folder = folder_with(alloc, Vec::new(alloc))?;
@@ -39,7 +38,6 @@ fn a_text_of_two_pieces_becomes_main(rt: HostRuntime) -> Result<(), Fail> {
 }
 
 #[test]
-#[tactic(auto, using(crate::proofs::FillingLemmas::piece_le))]
 fn a_failed_call_hands_the_plan_back(rt: HostRuntime) -> Result<(), Fail> {
     let alloc = rt.alloc();
     let call = FolderCall::Append;
