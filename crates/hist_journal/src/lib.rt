@@ -15,6 +15,8 @@ mod pref_name;
 mod reserve_error;
 mod sections;
 mod seen;
+#[cfg(test)]
+mod tests;
 
 pub use base::Base;
 pub use bounds::Bounds;
