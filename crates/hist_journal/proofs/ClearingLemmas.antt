@@ -9,7 +9,7 @@ use Rattle.hist_journal.specs.Kinds.{is_call}
 
 -- what stands in a list stands in a longer one
 longer : {X : Type 0} (list before behind more : List X) (x : X) → list ≡ before ++ x ∷ behind → list ++ more ≡ before ++ x ∷ (behind ++ more)
-longer list before behind more x e = ap (λ (xs : List X). xs ++ more) e ∙ append_assoc before (x ∷ behind) more
+longer {X = X} list before behind more x e = ap (λ (xs : List X). xs ++ more) e ∙ append_assoc before (x ∷ behind) more
 
 module _ {V T : Type 0} where
   pub ends_in_replace-push : (call : CallId) (so_far : Bool) (list : List (EntrySeen V T)) (e : EntrySeen V T)

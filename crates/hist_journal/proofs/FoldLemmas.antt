@@ -1,5 +1,6 @@
 -- The folds of a longer history.
-use Rattle.std.proofs.Common.{◌≡◌, ◌∙◌, ◌+◌, ◌≤◌, ℕ, Bool, true, false, List, [], ◌∷◌, ◌++◌, Option, Some, length, count_by, refl, ap, cond, arith}
+use Rattle.std.proofs.Common.{◌≡◌, ◌∙◌, ◌+◌, ◌≤◌, ℕ, Bool, true, false, List, [], ◌∷◌, ◌++◌, Option, Some, length, count_by, refl, sym, ap, cond, arith, ◌==◌, if◌then◌else◌}
+use Rattle.std.proofs.lemmas.Bool.Decides.{nat_tests}
 use Rattle.std.proofs.lemmas.List.Sums.{sum_by-append, count_by-le-length}
 use Rattle.store_traits.specs.declared.applied.Applied.{Applied}
 use Rattle.hist_journal.specs.declared.seen.BaseSeen.{BaseSeen}
@@ -11,11 +12,24 @@ use Rattle.hist_journal.specs.Folds.{edition_of, raises_of, value_after, value_o
 use Rattle.hist_journal.specs.Kinds.{is_raise, is_change}
 use Rattle.hist_journal.specs.ListedJournal.{journal_meaning}
 use Rattle.hist_journal.specs.Meaning as listed
+use Rattle.hist_journal.specs.Meaning.{Meaning}
 
 
 -- one more entry counts where it passes the test
 counted : {X : Type 0} (p : X → Bool) (xs : List X) (x : X) → count_by p (xs ++ x ∷ []) ≡ count_by p xs + cond (p x) 1 0
 counted p xs x = sum_by-append _ xs (x ∷ []) ∙ ap (λ n. count_by p xs + n) (omega arith)
+
+counted_first : {X : Type 0} (p : X → Bool) (x : X) (xs : List X) → count_by p (x ∷ xs) ≡ cond (p x) 1 0 + count_by p xs
+counted_first p x xs = sum_by-append _ (x ∷ []) xs ∙ ap (λ n. n + count_by p xs) (omega arith)
+
+-- the count of a room
+count_is : {S D E H : Type 0} (m : Meaning S D E H) (b : Bool) (n : ℕ) → listed.count m b n ≡ cond b 1 0 + n
+count_is m true n = omega arith
+count_is m false n = omega arith
+
+-- a number above 0 is not 0
+shown : {X : Type 0} (n : ℕ) (main text : X) → (if n + 1 == 0 then main else text) ≡ text
+shown n main text = grind (arith, nat_tests)
 
 module _ {V T : Type 0} where
   pub edition_of-append : (xs ys : List (EntrySeen V T)) → edition_of (xs ++ ys) ≡ edition_of xs + edition_of ys
@@ -58,11 +72,11 @@ module _ {V T : Type 0} where
   pub raises_of-listed : (list : List (EntrySeen V T)) → listed.raises (journal_meaning {V = V} {T = T}) list ≡ raises_of list
   unfolding raises_of
   raises_of-listed [] = refl
-  raises_of-listed (e ∷ es) = ap (λ n. listed.count (is_raise e.kind) n) (raises_of-listed es) ∙ one_more (is_raise e.kind) (count_by (λ (x : EntrySeen V T). is_raise x.kind) es)
-    where
-      one_more : (b : Bool) (n : ℕ) → listed.count b n ≡ cond b 1 0 + n
-      one_more true n = omega arith
-      one_more false n = omega arith
+  raises_of-listed (e ∷ es) =
+      let m = journal_meaning {V = V} {T = T} in
+      let first = counted_first (λ (x : EntrySeen V T). is_raise x.kind) e es in
+      ap (listed.count m (is_raise e.kind)) (raises_of-listed es)
+      ∙ (count_is m (is_raise e.kind) (count_by (λ (x : EntrySeen V T). is_raise x.kind) es) ∙ sym first)
 
   pub value_of-append : (after : T → V → Applied V) (base : BaseSeen V) (xs ys : List (EntrySeen V T)) → value_of after base (xs ++ ys) ≡ value_of after (value_of after base xs) ys
   unfolding value_of
@@ -99,7 +113,7 @@ module _ {V T : Type 0} where
   pub main_of-change : (after : T → V → Applied V) (encoded : V → List ℕ) (base : BaseSeen V) (main : Option (List ℕ)) (list : List (EntrySeen V T)) (e : EntrySeen V T) (v : V)
       → is_change e.kind ≡ true → value_of after base (list ++ e ∷ []) ≡ Held v → main_of after encoded base main (list ++ e ∷ []) ≡ Some (encoded v)
   unfolding main_of text_or
-  main_of-change after encoded base main list e v h is = rw (edition_of-change list e h, is)
+  main_of-change after encoded base main list e v h is = rw (edition_of-change list e h, is) (shown (edition_of list) main (Some (encoded v)))
 
   pub weight_of-push : (transform_weight : T → ℕ) (value_weight : V → ℕ) (list : List (EntrySeen V T)) (e : EntrySeen V T)
       → weight_of transform_weight value_weight (list ++ e ∷ []) ≡ weight_of transform_weight value_weight list + kind_weight transform_weight value_weight e.kind
