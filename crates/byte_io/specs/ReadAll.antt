@@ -1,5 +1,5 @@
 -- What reading a source to its end answers.
-use Rattle.std.specs.Prelude.{ℕ, ◌≡◌, ◌+◌, ◌<◌, ◌≤◌, ◌++◌, Bool, IsTrue, List, [], length, Result, Ok, Err}
+use Rattle.std.specs.Prelude.{ℕ, ◌≡◌, ◌+◌, ◌≤◌, ◌++◌, Bool, IsTrue, List, [], length, Result, Ok, Err}
 use Rattle.store_traits.specs.Faults.{Rose}
 use Rattle.byte_io.specs.declared.read_all_error.ReadAllError.{ReadAllError}
 use Rattle.byte_io.specs.declared.read_all_error.ReadAllError.TheVariants.{ReadFault, TooLong, NoMemory}

@@ -1,5 +1,5 @@
 -- What reading from a source takes.
-use Rattle.std.specs.Prelude.{ℕ, ◌≡◌, ◌<◌, ◌≤◌, ◌++◌, Bool, IsTrue, List, [], length, take, Result, Ok, Err}
+use Rattle.std.specs.Prelude.{ℕ, ◌≡◌, ◌<◌, ◌≤◌, ◌++◌, Bool, IsTrue, List, [], take, Result, Ok, Err}
 
 -- these many first bytes of what was left stand at the front of the buffer, and no longer in what is left
 pub record Takes (old : List ℕ) (room taken : ℕ) (buffer new : List ℕ) : Type 0 where

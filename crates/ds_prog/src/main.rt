@@ -12,14 +12,15 @@ fn main(rt: HostRuntime) -> ExitCode {
 }
 
 fn run(rt: HostRuntime) -> Status {
-    let alloc = rt.alloc();
-    match env::args(&rt) {
-        Ok(mut args) => {
-            let _name = args.next();
-            run_tool(alloc, args.as_slice(), &mut StdFolder::new(rt))
-        }
+    match words(&rt) {
+        Ok(words) => run_tool(rt.alloc(), &words, &mut StdFolder::new(rt)),
         // A word that is no text is no word of a command.
         Err(error) if error.kind() == io::ErrorKind::InvalidData => Status::Words,
         Err(_) => Status::NoMemory,
     }
+}
+
+/// The words behind the program's name.
+fn words(rt: &HostRuntime) -> io::Result<Vec<String>> {
+    Ok(env::args(rt)?.skip(1).collect(rt.alloc())?)
 }

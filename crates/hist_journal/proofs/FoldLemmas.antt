@@ -14,7 +14,6 @@ use Rattle.hist_journal.specs.ListedJournal.{journal_meaning}
 use Rattle.hist_journal.specs.Meaning as listed
 use Rattle.hist_journal.specs.Meaning.{Meaning}
 
-
 -- one more entry counts where it passes the test
 counted : {X : Type 0} (p : X → Bool) (xs : List X) (x : X) → count_by p (xs ++ x ∷ []) ≡ count_by p xs + cond (p x) 1 0
 counted p xs x = sum_by-append _ xs (x ∷ []) ∙ ap (λ n. count_by p xs + n) (omega arith)

@@ -1,7 +1,5 @@
 //! A journal as its callers use it, `Listed` called through its bound, and that the types may cross threads.
-use crate::{
-    Base, Bounds, Device, Entry, Journal, Kind, Listed, PrefName, ReserveError, Sections,
-};
+use crate::{Base, Bounds, Device, Entry, Journal, Kind, Listed, PrefName, ReserveError, Sections};
 use std::alloc::Global;
 use std::test::Fail;
 use store_traits::{CallId, ClientId, NodeId};
@@ -47,7 +45,10 @@ fn a_full_history_is_refused_with_its_numbers(rt: HostRuntime) -> Result<(), Fai
     };
     assert_eq!(rt; journal.reserve(1), Err(full));
     let text = format!(in rt.alloc(); "{full}")?;
-    assert_eq!(rt; text.as_str(), "the history is full with 1 entries of weight 2");
+    assert_eq!(rt;
+        text.as_str(),
+        "the history is full with 1 entries of weight 2"
+    );
     journal.reserve_past(4)?;
     journal.push(entry(Kind::Death(NodeId(1))), 0);
     assert_eq!(rt; journal.len(), 2);

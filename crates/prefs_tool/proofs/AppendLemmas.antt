@@ -33,7 +33,7 @@ pub room_less : (plan next : Filling) (first before now : Room) → next ≡ fil
     → RoomForRest next first now
 room_less plan next first before now e room uses = rw e (record {
   bytes = omega (arith, room.bytes, uses.bytes_left, length-take 4096 plan.rest, length-drop 4096 plan.rest);
-  renames = omega (arith, room.renames, uses.renames_left)
+  renames = omega (arith, room.renames, uses.renames_left);
 })
 
 -- and the scratch file that the plan says
@@ -41,5 +41,5 @@ pub appended : (plan next : Filling) (first before now : Contents) → next ≡ 
     → ChangesScratch (Unsynced (plan.written ++ next_piece plan)) before now → Appending next first now
 appended plan next first before now e so_far changes = rw e (record {
   untouched = record { main = changes.main ∙ so_far.untouched.main; kept = changes.kept ∙ so_far.untouched.kept };
-  scratch = changes.scratch
+  scratch = changes.scratch;
 })

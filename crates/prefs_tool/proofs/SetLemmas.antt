@@ -1,5 +1,5 @@
 -- A key that has the value already: the folder is synced, and nothing else is done.
-use Rattle.std.proofs.Common.{◌≡◌, ◌≤◌, inl, inr, ℕ, Bool, IsTrue, Result, Ok, Err, Option, Some, None, List, [], length, subst, arith}
+use Rattle.std.proofs.Common.{◌≡◌, ◌≤◌, inl, inr, ℕ, Bool, IsTrue, Result, Ok, Err, Option, Some, None, List, [], length, subst}
 use Rattle.folder_disk.specs.Contents.{Contents}
 use Rattle.folder_disk.specs.Tally.{Tally}
 use Rattle.store_traits.proofs.FaultLemmas.{rose_since}
@@ -7,7 +7,7 @@ use Rattle.prefs_model.specs.Map.{with_value, value_at}
 use Rattle.prefs_model.specs.declared.pref_pair.PrefPair.{PrefPair}
 use Rattle.prefs_model.specs.declared.pref_value.PrefValue.{PrefValue}
 use Rattle.prefs_model.proofs.Maps.{with_value_same}
-use Rattle.prefs_proto.specs.Encoded.{encoded, HasText}
+use Rattle.prefs_proto.specs.Encoded.{encoded}
 use Rattle.prefs_tool.specs.Command.{Set}
 use Rattle.prefs_tool.specs.Outcome.{file_limit, ReadsAs, Untouched, Settles, Outcome}
 use Rattle.prefs_tool.specs.Replacing.{SyncsMain}

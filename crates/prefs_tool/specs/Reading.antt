@@ -1,9 +1,8 @@
 -- What reading main as a map answers.
-use Rattle.std.specs.Prelude.{ℕ, ◌≡◌, Bool, IsTrue, List, Option, Result, Ok, Err}
+use Rattle.std.specs.Prelude.{ℕ, Bool, IsTrue, List, Option, Result, Ok, Err}
 use Rattle.prefs_model.specs.declared.pref_pair.PrefPair.{PrefPair}
 use Rattle.prefs_proto.specs.Encoded.{HasText}
 use Rattle.folder_disk.specs.declared.call.FolderCall.TheVariants.{ReadMain}
-use Rattle.folder_disk.specs.Contents.{Contents}
 use Rattle.folder_disk.specs.Due.{fails}
 use Rattle.folder_disk.specs.Tally.{Tally}
 use Rattle.store_traits.specs.Faults.{Rose}

@@ -10,6 +10,8 @@ mod read;
 mod replace;
 mod set;
 mod status;
+#[cfg(test)]
+mod tests;
 mod tool;
 mod tool_error;
 

@@ -3,8 +3,8 @@ ghost use Rattle.prefs_tool.specs.declared.tool_error.ToolError.TheVariants.{Sto
 ghost use Rattle.prefs_tool.specs.Status.{status_of};
 
 use crate::Status;
-use std::alloc::AllocError;
 use scratch_rename::{Filled, Fresh, Renamed, Synced};
+use std::alloc::AllocError;
 use store_traits::Failed;
 
 /// Why a command did not go well.

@@ -1,4 +1,3 @@
-use Rattle.std.proofs.Common.{◌≡◌, ap, ◌∙◌}
 use Rattle.byte_io.proofs.WriteLemmas.{front_of_wrote}
 use Rattle.byte_io.proofs.writing.write_all.Goals as goal
 

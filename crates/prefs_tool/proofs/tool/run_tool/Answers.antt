@@ -1,5 +1,4 @@
 -- The words that were read ask for one command, so what holds of it holds of any that they ask for.
-use Rattle.std.proofs.Common.{◌≡◌}
 use Rattle.prefs_model.specs.declared.pref_value.PrefValue.TheVariants.{Int}
 use Rattle.prefs_tool.specs.Command.{Set, texts}
 use Rattle.prefs_tool.proofs.CommandLemmas.{asks_one, no_words}

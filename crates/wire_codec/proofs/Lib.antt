@@ -1,0 +1,10 @@
+pub mod Varints
+pub mod Groups
+pub mod OneField
+pub mod Reading
+pub mod Machine
+pub mod Unique
+pub mod Walk
+pub mod Texts
+pub mod Counts
+pub mod Bodies
