@@ -1,5 +1,5 @@
 -- Whether a history has a clearing fault: old settings that were taken over could not be cleared.
-use Rattle.std.specs.Prelude.{◌≡◌, ℕ, Bool, true, false, IsTrue, List, [], ◌∷◌, ◌++◌, if◌then◌else◌}
+use Rattle.std.specs.Prelude.{◌≡◌, ℕ, Bool, true, false, List, [], ◌∷◌, ◌++◌, if◌then◌else◌}
 use Rattle.store_traits.specs.declared.ids.CallId.{CallId}
 use Rattle.hist_journal.specs.declared.device.Device.TheVariants.{Legacy}
 use Rattle.hist_journal.specs.declared.seen.EntrySeen.{EntrySeen}

@@ -1,5 +1,5 @@
 -- What a history comes to: its value, its edition, its raises, its weight, and main after it.
-use Rattle.std.specs.Prelude.{ℕ, ◌==◌, List, [], ◌∷◌, Option, Some, None, count_by, sum_by, if◌then◌else◌}
+use Rattle.std.specs.Prelude.{ℕ, ◌==◌, List, [], ◌∷◌, Option, Some, count_by, sum_by, if◌then◌else◌}
 use Rattle.store_traits.specs.declared.applied.Applied.{Applied}
 use Rattle.store_traits.specs.declared.applied.Applied.TheVariants.{Changed, Refused}
 use Rattle.hist_journal.specs.declared.seen.BaseSeen.{BaseSeen}

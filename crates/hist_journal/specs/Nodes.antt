@@ -1,5 +1,5 @@
 -- Which nodes are dead, and which are ready, after a history.
-use Rattle.std.specs.Prelude.{Bool, true, false, List, [], ◌∷◌, Option, Some, None, unwrap_or, if◌then◌else◌}
+use Rattle.std.specs.Prelude.{Bool, true, false, List, [], ◌∷◌, Option, Some, None, unwrap_or}
 use Rattle.std.specs.Option.{option_or}
 use Rattle.store_traits.specs.declared.ids.NodeId.{NodeId}
 use Rattle.hist_journal.specs.declared.seen.EntrySeen.{EntrySeen}

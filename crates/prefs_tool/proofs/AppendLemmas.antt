@@ -1,5 +1,5 @@
 -- The loop that appends a text piece by piece.
-use Rattle.std.proofs.Common.{◌≡◌, ◌∙◌, ◌+◌, ◌≤◌, ◌<◌, ℕ, List, ◌++◌, take, drop, length, ap, arith, append_assoc}
+use Rattle.std.proofs.Common.{◌≡◌, ◌∙◌, ◌≤◌, ◌<◌, ◌++◌, take, drop, length, ap, arith, append_assoc}
 use Rattle.std.proofs.lemmas.List.{take-append-drop, length-take, length-drop}
 use Rattle.folder_disk.specs.Contents.{Contents, Unsynced, ChangesScratch}
 use Rattle.folder_disk.specs.Room.{Room, Uses}

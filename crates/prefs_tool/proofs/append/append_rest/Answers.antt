@@ -1,5 +1,5 @@
 -- One piece more is written, and nothing else has changed.
-use Rattle.std.proofs.Common.{◌≡◌, ◌∙◌, ◌≤◌, ◌<◌, length, arith}
+use Rattle.std.proofs.Common.{◌∙◌, arith}
 use Rattle.prefs_tool.proofs.AppendLemmas.{same_bytes, piece_le_rest, less_rest, room_less, appended}
 use Rattle.prefs_tool.proofs.append.append_rest.Goals as goal
 

@@ -1,4 +1,4 @@
-use Rattle.std.proofs.Common.{◌≤◌, length, arith}
+use Rattle.std.proofs.Common.{arith}
 use Rattle.scratch_rename.proofs.FillingLemmas.{piece_le}
 use Rattle.scratch_rename.proofs.tests.a_failed_call_hands_the_plan_back.Goals as goal
 

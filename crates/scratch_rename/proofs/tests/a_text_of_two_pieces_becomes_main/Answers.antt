@@ -1,4 +1,4 @@
-use Rattle.std.proofs.Common.{◌≤◌, length, arith}
+use Rattle.std.proofs.Common.{arith}
 use Rattle.scratch_rename.proofs.FillingLemmas.{piece_le}
 use Rattle.scratch_rename.proofs.tests.a_text_of_two_pieces_becomes_main.Goals as goal
 

@@ -1,5 +1,5 @@
 -- The plan stands behind the next piece once that is appended.
-use Rattle.std.proofs.Common.{◌≡◌, ◌≤◌, length, arith}
+use Rattle.std.proofs.Common.{arith}
 use Rattle.scratch_rename.proofs.FillingLemmas.{filled_by, length_written, piece_within}
 use Rattle.scratch_rename.proofs.filled.Filled.append.Goals as goal
 
