@@ -1,4 +1,3 @@
-pub mod Append
 pub mod Command
 pub mod Outcome
 pub mod Reading

@@ -47,7 +47,7 @@ fn store<F: Folder>(alloc: Global, folder: &mut F, map: &PrefMap) -> Result<(), 
         return Err(ToolError::Refused);
     }
     let text = PrefsCodec.encode(alloc, map)?;
-    replace_main(alloc, folder, text.as_slice())
+    replace_main(alloc, folder, text)
 }
 
 /// Whether the map has this value at the key.

@@ -3,6 +3,7 @@ ghost use Rattle.prefs_tool.specs.declared.tool_error.ToolError.TheVariants.{Sto
 ghost use Rattle.prefs_tool.specs.Status.{status_of};
 
 use crate::Status;
+use scratch_rename::{Filled, Fresh, Renamed, Synced};
 use std::alloc::AllocError;
 use store_traits::Failed;
 
@@ -32,6 +33,39 @@ impl From<Failed> for ToolError {
     ghost from_gives = { λ _ e. e ≡ Storage };
 
     fn from(_: Failed) -> ToolError {
+        ToolError::Storage
+    }
+}
+
+// A plan comes back where the folder failed.
+impl From<Fresh> for ToolError {
+    ghost from_gives = { λ _ e. e ≡ Storage };
+
+    fn from(_: Fresh) -> ToolError {
+        ToolError::Storage
+    }
+}
+
+impl From<Filled> for ToolError {
+    ghost from_gives = { λ _ e. e ≡ Storage };
+
+    fn from(_: Filled) -> ToolError {
+        ToolError::Storage
+    }
+}
+
+impl From<Synced> for ToolError {
+    ghost from_gives = { λ _ e. e ≡ Storage };
+
+    fn from(_: Synced) -> ToolError {
+        ToolError::Storage
+    }
+}
+
+impl From<Renamed> for ToolError {
+    ghost from_gives = { λ _ e. e ≡ Storage };
+
+    fn from(_: Renamed) -> ToolError {
         ToolError::Storage
     }
 }

@@ -1,0 +1,4 @@
+pub mod ClearingLemmas
+pub mod FoldLemmas
+pub mod NodeLemmas
+pub mod QuietLemmas

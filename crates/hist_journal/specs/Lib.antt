@@ -1,0 +1,9 @@
+pub mod Clearing
+pub mod Folds
+pub mod Journal
+pub mod Kinds
+pub mod ListedJournal
+pub mod Meaning
+pub mod Nodes
+pub mod Quiet
+pub mod View
