@@ -1,0 +1,5 @@
+use Rattle.wire_codec.specs.Faults.{four_cut}
+use Rattle.wire_codec.proofs.cursor.Cursor.four.Goals as goal
+
+pub returns-in_default-clause-fault : goal.returns-in_default-clause-fault
+returns-in_default-clause-fault c = rw c.place-place.ensures (four_cut c.in_default.ensures.0)
