@@ -2,15 +2,12 @@
 use Rattle.std.proofs.Common.{◌≡◌, ℕ, ◌+◌, List, [], ◌∷◌, ◌++◌, length, All, refl, sym, ap, ◌∙◌, length-append}
 use Rattle.std.specs.List.{sum_by}
 use Rattle.std.proofs.lemmas.List.Concat.{length-flat_map}
-use Rattle.std.proofs.lemmas.List.Elements.{All-nil, All-head, All-tail}
+use Rattle.std.proofs.lemmas.List.Elements.{All-head, All-tail}
 use Rattle.std.proofs.lemmas.Option.{some_pair_parts}
-use Rattle.prefs_model.specs.Map.{IsKey, key_of, with_value}
 use Rattle.prefs_model.specs.declared.pref_pair.PrefPair.{PrefPair}
-use Rattle.prefs_model.specs.declared.pref_value.PrefValue.{PrefValue}
-use Rattle.prefs_model.proofs.Maps.{IsMap-with_value}
-use Rattle.prefs_model.proofs.Rising.{All-with_item}
-use Rattle.prefs_proto.specs.ValueText.{IsValue}
-use Rattle.prefs_proto.specs.Encoded.{field, pair_text, encoded, HasText}
+use Rattle.prefs_proto.specs.FieldText.{field}
+use Rattle.prefs_proto.specs.ValueText.{IsInt}
+use Rattle.prefs_proto.specs.Encoded.{pair_text, encoded, HasText}
 use Rattle.prefs_proto.specs.Reading.{pair_at}
 use Rattle.prefs_proto.proofs.Pairs.{IsPair, pair_again}
 
@@ -54,15 +51,3 @@ encoded_same (p ∷ a) (q ∷ b) fits_a fits_b e =
 -- bytes are the text of at most one map
 pub same_from_text : (bytes : List ℕ) (a b : List PrefPair) → HasText bytes a → HasText bytes b → a ≡ b
 same_from_text bytes a b is_a is_b = encoded_same a b (HasText-pairs bytes a is_a) (HasText-pairs bytes b is_b) (sym is_a.text ∙ is_b.text)
-
--- no bytes are the text of the empty map
-pub HasText-nil : HasText [] []
-HasText-nil = record { map = record { rising = tt; keys = All-nil (λ pair. IsKey pair.key) }; values = All-nil (λ pair. IsValue pair.value); text = sym encoded-nil }
-
--- a map that has a text has one once a key has another value
-pub HasText-with_value : (bytes : List ℕ) (pairs : List PrefPair) (key : List ℕ) (value : PrefValue) → HasText bytes pairs → IsKey key → IsValue value → HasText (encoded (with_value pairs key value)) (with_value pairs key value)
-HasText-with_value bytes pairs key value has is_key is_value = record {
-  map = IsMap-with_value pairs key value has.map is_key;
-  values = All-with_item key_of (λ pair. IsValue pair.value) pairs (record { key = key; value = value }) has.values is_value;
-  text = refl;
-}

@@ -3,7 +3,7 @@ use Rattle.std.proofs.Common.{◌≡◌, ℕ, ◌+◌, ◌^◌, ◌<◌, List, �
 use Rattle.std.proofs.lemmas.Bool.{le-ltb}
 use Rattle.std.proofs.lemmas.List.{take_at, drop_at}
 use Rattle.prefs_proto.specs.Varint.{varint}
-use Rattle.prefs_proto.specs.Encoded.{field}
+use Rattle.prefs_proto.specs.FieldText.{field}
 use Rattle.prefs_proto.specs.Reading.{behind_tag, field_at}
 use Rattle.prefs_proto.proofs.Varints.{varint_again}
 

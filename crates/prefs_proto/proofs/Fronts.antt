@@ -9,7 +9,7 @@ use Rattle.prefs_model.specs.Map.{IsMap, IsKey, key_of, with_value}
 use Rattle.prefs_model.specs.declared.pref_pair.PrefPair.{PrefPair}
 use Rattle.prefs_model.proofs.Maps.{with_value_end, IsMap-front}
 use Rattle.prefs_model.proofs.Rising.{All-with_item}
-use Rattle.prefs_proto.specs.ValueText.{IsValue}
+use Rattle.prefs_proto.specs.ValueText.{IsInt}
 use Rattle.prefs_proto.specs.Encoded.{encoded, HasText}
 use Rattle.prefs_proto.specs.Reading.{pair_at}
 use Rattle.prefs_proto.proofs.Pairs.{IsPair, pair_again}
@@ -25,13 +25,13 @@ pub record IsFront (front : List PrefPair) (rest : List ℕ) (pairs : List PrefP
 -- where the bytes are the text of a map, its front was read
 pub record IsRead (bytes : List ℕ) (front : List PrefPair) (rest : List ℕ) : Type 0 where
   pub only : (pairs : List PrefPair) → HasText bytes pairs → IsFront front rest pairs
-  pub values : All (λ pair. IsValue pair.value) front
+  pub values : All (λ pair. IsInt pair.value) front
 
 -- nothing was read yet
 pub none_read : (bytes : List ℕ) → IsRead bytes [] bytes
 none_read bytes = record {
   only = λ pairs has. record { behind = pairs; whole = refl; text = has.text };
-  values = All-nil (λ pair. IsValue pair.value);
+  values = All-nil (λ pair. IsInt pair.value);
 }
 
 all_behind : (front behind pairs : List PrefPair) → pairs ≡ front ++ behind → [] ≡ encoded behind → pairs ≡ front
@@ -102,8 +102,8 @@ module _ (bytes : List ℕ) (front : List PrefPair) (rest : List ℕ) (read : Is
         }
 
 -- one more pair was read
-pub read_more : (bytes : List ℕ) (front : List PrefPair) (rest : List ℕ) (pair : PrefPair) (after : List ℕ) → IsRead bytes front rest → 0 < length rest → pair_at rest ≡ Some (pair, after) → IsValue pair.value → IsRead bytes (with_value front pair.key pair.value) after
+pub read_more : (bytes : List ℕ) (front : List PrefPair) (rest : List ℕ) (pair : PrefPair) (after : List ℕ) → IsRead bytes front rest → 0 < length rest → pair_at rest ≡ Some (pair, after) → IsInt pair.value → IsRead bytes (with_value front pair.key pair.value) after
 read_more bytes front rest pair after read some found value = record {
   only = λ pairs has. next_front bytes front rest read some pairs has pair after found;
-  values = All-with_item key_of (λ p. IsValue p.value) front pair read.values value;
+  values = All-with_item key_of (λ p. IsInt p.value) front pair read.values value;
 }

@@ -1,4 +1,5 @@
 pub mod Above
+pub mod Counts
 pub mod Encodings
 pub mod Fields
 pub mod Fronts

@@ -5,7 +5,7 @@ use Rattle.std.specs.Int.{w32, w64, cast_signed, cast_unsigned}
 use Rattle.std.proofs.lemmas.Int.{to_z-of_z}
 use Rattle.prefs_model.specs.declared.pref_value.PrefValue.{PrefValue}
 use Rattle.prefs_model.specs.declared.pref_value.PrefValue.TheVariants.{Int}
-use Rattle.prefs_proto.specs.ValueText.{value_text, IsValue}
+use Rattle.prefs_proto.specs.ValueText.{value_text, IsInt}
 use Rattle.prefs_proto.specs.Reading.{behind_tag, value_at}
 use Rattle.prefs_proto.proofs.Varints.{varint_again, varint-within}
 
@@ -19,13 +19,15 @@ low_bits (pos n) fits = omega (arith, fits.sfits)
 low_bits (negsuc n) fits = omega (arith, fits.sfits)
 
 -- what is spelled is read, whatever follows
-pub value_again : (value : PrefValue) (rest : List ℕ) → IsValue value → value_at (value_text value ++ rest) ≡ Some value
+pub value_again : (value : PrefValue) (rest : List ℕ) → IsInt value → value_at (value_text value ++ rest) ≡ Some value
 unfolding value_text value_at behind_tag
 value_again (Int n) rest fits =
     let same : cast_signed w32 (cast_unsigned w64 n % 2 ^ 32) ≡ n = ap (cast_signed w32) (low_bits n fits) ∙ to_z-of_z w32 n fits in
     rw (varint_again (cast_unsigned w64 n) rest (bits_fit n fits)) (ap (λ (number : ℤ). Some (Int number)) same)
+value_again other rest is = absurd is
 
--- a value has at most eleven bytes
-pub value_text-within : (value : PrefValue) → length (value_text value) ≤ 11
+-- a number has at most eleven bytes
+pub value_text-within : (value : PrefValue) → IsInt value → length (value_text value) ≤ 11
 unfolding value_text
-value_text-within (Int n) = omega (arith, varint-within (cast_unsigned w64 n))
+value_text-within (Int n) fits = omega (arith, varint-within (cast_unsigned w64 n))
+value_text-within other is = absurd is

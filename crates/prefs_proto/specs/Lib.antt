@@ -1,4 +1,5 @@
 pub mod Encoded
+pub mod FieldText
 pub mod Reading
 pub mod ValueText
 pub mod Varint

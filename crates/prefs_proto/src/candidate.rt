@@ -3,7 +3,7 @@ ghost use Rattle.std.specs.Option.{SomeIff};
 ghost use Rattle.std.specs.declared.cmp.Ordering.TheVariants.{Less};
 ghost use Rattle.prefs_model.specs.Map.{IsKey, key_cmp};
 ghost use Rattle.prefs_model.specs.declared.pref_pair.PrefPair.{PrefPair};
-ghost use Rattle.prefs_proto.specs.ValueText.{IsValue};
+ghost use Rattle.prefs_proto.specs.ValueText.{IsInt};
 ghost use Rattle.prefs_proto.specs.Encoded.{HasText};
 
 use crate::pair::read_pair;
@@ -34,7 +34,7 @@ fn is_above(map: &PrefMap, key: &PrefKey) -> bool
 /// The only map whose text the bytes may be, if there is one.
 pub fn read_candidate(alloc: Global, bytes: &[u8]) -> Result<Option<PrefMap>, AllocError>
     ensures only { (pairs : List PrefPair) → HasText bytes.now pairs → IfOk result (λ found. found ≡ Some pairs) }
-    ensures values { IfOk result (λ found. IfSome found (All (λ pair. IsValue pair.value))) }
+    ensures values { IfOk result (λ found. IfSome found (All (λ pair. IsInt pair.value))) }
 {
     let mut map = PrefMap::new(alloc);
     let mut rest = bytes;

@@ -9,6 +9,7 @@ mod laws;
 mod map_text;
 mod pair;
 mod prefs_codec;
+mod set;
 mod tag;
 mod value;
 mod varint;

@@ -1,7 +1,7 @@
 ghost use Rattle.std.specs.Prelude.{◌≡◌, ◌-◌, ◌^◌, ◌↔◌, All, List, min, length, IfOk, IsTrue};
 ghost use Rattle.store_traits.specs.Decoded.{MatchDecoded};
 ghost use Rattle.prefs_model.specs.declared.pref_pair.PrefPair.{PrefPair};
-ghost use Rattle.prefs_proto.specs.ValueText.{IsValue};
+ghost use Rattle.prefs_proto.specs.ValueText.{IsInt};
 ghost use Rattle.prefs_proto.specs.Encoded.{encoded, HasText};
 
 use crate::candidate::read_candidate;
@@ -46,7 +46,7 @@ impl PrefsCodec {
 
 /// Whether the bytes are the text of the map.
 fn is_text_of(alloc: Global, bytes: &[u8], map: &PrefMap) -> Result<bool, AllocError>
-    requires { All (λ pair. IsValue pair.value) map.now }
+    requires { All (λ pair. IsInt pair.value) map.now }
     ensures { IfOk result (λ is_text. IsTrue is_text ↔ HasText bytes.now map.now) }
 {
     let text = text_of(alloc, map.pairs())?;
