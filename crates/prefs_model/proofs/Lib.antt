@@ -1,3 +1,4 @@
+pub mod EntryLemmas
 pub mod Keys
 mod Latest
 pub mod Maps

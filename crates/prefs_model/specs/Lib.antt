@@ -1,3 +1,4 @@
+pub mod Entry
 pub mod Key
 pub mod Map
 pub mod Rising

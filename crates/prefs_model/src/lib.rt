@@ -3,9 +3,11 @@
 #![tactic(auto)]
 
 mod entries;
+mod first_values;
 mod items;
 mod keyed;
 mod map_laws;
+mod pref_entry;
 mod pref_key;
 mod pref_map;
 mod pref_pair;
@@ -20,6 +22,7 @@ mod text_set;
 pub use entries::Entries;
 pub use keyed::Keyed;
 pub use map_laws::{one_map, pairs_are_values, values_after_remove, values_after_set};
+pub use pref_entry::PrefEntry;
 pub use pref_key::{KeyTooLong, MAX_KEY_LEN, PrefKey};
 pub use pref_map::PrefMap;
 pub use pref_pair::PrefPair;

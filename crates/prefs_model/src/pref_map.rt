@@ -1,8 +1,9 @@
 ghost use Rattle.std.specs.Prelude.{◌≡◌, ◌↔◌, ℕ, List, [], reverse, IsTrue, IfOk, OnOk, OnErr, IsOk, IsSome, option_copied};
+ghost use Rattle.prefs_model.specs.Entry.{FirstValues};
 ghost use Rattle.prefs_model.specs.Map.{IsMap, has_value, value_at, with_value, without_value};
 
 use crate::sorted_vec::SortedVec;
-use crate::{Entries, PrefKey, PrefPair, PrefValue};
+use crate::{Entries, PrefEntry, PrefKey, PrefPair, PrefValue, first_values, items};
 use std::alloc::{AllocError, Global};
 use std::marker::Model;
 
@@ -37,6 +38,22 @@ impl PrefMap {
     {
         let pairs = SortedVec::from_entries(entries)?;
         Ok(PrefMap { pairs })
+    }
+
+    /// The same of entries whose values may not be set, or the least key whose last entry has none.
+    pub fn from_set_entries(
+        alloc: Global,
+        entries: Entries<PrefEntry>,
+    ) -> Result<Result<PrefMap, PrefKey>, AllocError>
+        ensures { IfOk result (FirstValues (reverse entries)) }
+    {
+        let last = items::last_of_each_key(entries.into_vec())?;
+        match first_values::first_values(alloc, last)? {
+            Ok(pairs) => Ok(Ok(PrefMap {
+                pairs: SortedVec::from_sorted(pairs),
+            })),
+            Err(key) => Ok(Err(key)),
+        }
     }
 
     /// The pairs, in rising order of their keys.

@@ -42,6 +42,14 @@ impl<T: Keyed> SortedVec<T> {
         Ok(SortedVec { items })
     }
 
+    /// Items whose keys rise.
+    pub fn from_sorted(items: Vec<T>) -> SortedVec<T>
+        requires { IsSortedList T.key_of T.is_valid items.items }
+        ensures { result ≡ items.items }
+    {
+        SortedVec { items }
+    }
+
     /// The items, in rising order.
     pub fn as_slice(&self) -> &[T]
         ensures items { result.now ≡ self.now }

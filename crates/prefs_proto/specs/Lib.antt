@@ -1,5 +1,10 @@
 pub mod Encoded
+pub mod Entry
 pub mod FieldText
+pub mod Found
+pub mod Layout
+pub mod Message
 pub mod Reading
+pub mod Reads
 pub mod ValueText
 pub mod Varint

@@ -4,16 +4,26 @@
 #![tactic(auto)]
 
 mod candidate;
+mod decode_error;
+mod draft;
 mod field;
 mod laws;
 mod map_text;
+mod nested;
 mod pair;
 mod prefs_codec;
+mod read_entry;
+mod read_map;
+mod read_set;
+mod read_text;
+mod read_value;
 mod set;
+mod stop;
 mod tag;
 mod value;
 mod varint;
 
+pub use decode_error::DecodeError;
 pub use laws::{one_map_from_bytes, shortest_varint};
 pub use prefs_codec::PrefsCodec;
 
