@@ -1,9 +1,13 @@
 pub mod Above
 pub mod Counts
+pub mod Drafts
 pub mod Encodings
 pub mod Fields
 pub mod Fronts
+pub mod Layouts
 pub mod Pairs
+pub mod Places
 pub mod Rows
 pub mod Values
 pub mod Varints
+pub mod Walk
