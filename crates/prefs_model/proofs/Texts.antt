@@ -1,7 +1,7 @@
 -- The laws of a set of texts.
 use Rattle.std.proofs.Common.{◌≡◌, ◌≢◌, ◌↔◌, ℕ, List, Bool, true, false, Option, Some, None, IsTrue, is_some, Contains, refl, sym, ◌∙◌, ap, if◌then◌else◌}
 use Rattle.std.specs.Str.{IsUtf8}
-use Rattle.prefs_model.specs.Rising.{value_under}
+use Rattle.prefs_model.specs.Rising.{value_under, IsRising}
 use Rattle.prefs_model.specs.Texts.{IsTextSet, itself, has_text, with_text, without_text}
 use Rattle.prefs_model.proofs.Rising.{IsSortedList-with_item, IsSortedList-without_key, with_item_found, value_with_item, value_with_other, value_without_key, value_without_other, same_from_values}
 use Rattle.prefs_model.proofs.Latest.{found_key, found_contains, has_key_of_item}
@@ -26,10 +26,14 @@ has_text-Contains texts text = (λ there. found_contains itself texts text text 
 one_text : (a b : List ℕ) → itself a ≡ itself b → itself a ≡ itself b → a ≡ b
 one_text a b same _ = same
 
+-- lists that rise and have the same texts are one list
+pub same_from_rising : (a b : List (List ℕ)) → IsRising itself a → IsRising itself b → ((text : List ℕ) → has_text a text ≡ has_text b text) → a ≡ b
+same_from_rising a b rising_a rising_b same =
+    same_from_values itself itself one_text a b rising_a rising_b (λ text. text_at-has_text a text ∙ rw (same text) (sym (text_at-has_text b text)))
+
 -- sets that have the same texts are one set
 pub same_from_has_text : (a b : List (List ℕ)) → IsTextSet a → IsTextSet b → ((text : List ℕ) → has_text a text ≡ has_text b text) → a ≡ b
-same_from_has_text a b set_a set_b same =
-    same_from_values itself itself one_text a b set_a.rising set_b.rising (λ text. text_at-has_text a text ∙ rw (same text) (sym (text_at-has_text b text)))
+same_from_has_text a b set_a set_b same = same_from_rising a b set_a.rising set_b.rising same
 
 pub IsTextSet-with_text : (texts : List (List ℕ)) (text : List ℕ) → IsTextSet texts → IsUtf8 text → IsTextSet (with_text texts text)
 IsTextSet-with_text texts text = IsSortedList-with_item itself IsUtf8 texts text

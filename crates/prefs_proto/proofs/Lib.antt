@@ -5,9 +5,12 @@ pub mod Encodings
 pub mod Fields
 pub mod Fronts
 pub mod Layouts
+pub mod Loops
 pub mod Pairs
 pub mod Places
 pub mod Rows
+pub mod Sets
+pub mod Steps
 pub mod Values
 pub mod Varints
 pub mod Walk

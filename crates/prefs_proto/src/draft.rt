@@ -51,6 +51,11 @@ pub(crate) fn into_value(draft: Draft) -> Result<Option<PrefValue>, AllocError>
     match draft {
         Draft::Unset => Ok(None),
         Draft::One(value) => Ok(Some(value)),
-        Draft::Run(texts) => Ok(Some(PrefValue::Texts(TextSet::from_entries(texts)?))),
+        Draft::Run(texts) => {
+            let set = TextSet::from_entries(texts)?;
+            // A set is known by its texts, which rise.
+            let _ = set.texts();
+            Ok(Some(PrefValue::Texts(set)))
+        }
     }
 }
