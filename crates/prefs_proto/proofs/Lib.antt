@@ -1,16 +1,12 @@
-pub mod Above
 pub mod Counts
+pub mod Decodes
 pub mod Drafts
-pub mod Encodings
 pub mod Fields
-pub mod Fronts
 pub mod Layouts
 pub mod Loops
-pub mod Pairs
 pub mod Places
 pub mod Rows
 pub mod Sets
 pub mod Steps
-pub mod Values
 pub mod Varints
 pub mod Walk

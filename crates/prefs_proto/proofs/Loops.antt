@@ -148,6 +148,6 @@ map_all message found reader after w end = record {
 }
 
 -- a fault in an entry
-pub map_stop : {T : Type 0} (message : List ℕ) (old new : MapFound) (reader after : ReaderSeen) (f : FieldSeen) (stop : Stop) → MapWalk message old reader → TakesField reader f after → EntryAdded {T = T} f old new (Err stop) → MapRead message (Err stop)
-map_stop message old new reader after f (Wire e) w takes h = walk_inside MapGives MapFaulty 0 message reader after f w.entries e w.walk takes h
-map_stop message old new reader after f NoMemory w takes h = tt
+pub map_stop : (T : Type 0) (message : List ℕ) (old new : MapFound) (reader after : ReaderSeen) (f : FieldSeen) (stop : Stop) → MapWalk message old reader → TakesField reader f after → EntryAdded {T = T} f old new (Err stop) → MapRead message (Err stop)
+map_stop T message old new reader after f (Wire e) w takes h = walk_inside MapGives MapFaulty 0 message reader after f w.entries e w.walk takes h
+map_stop T message old new reader after f NoMemory w takes h = tt

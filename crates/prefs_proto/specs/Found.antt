@@ -3,7 +3,12 @@ use Rattle.std.specs.Prelude.{ℕ, ◌≡◌, List, [], ◌∷◌, ◌++◌, map
 use Rattle.std.specs.List.{flat_map}
 use Rattle.wire_codec.specs.declared.wire_error.WireError.{WireError}
 use Rattle.prefs_model.specs.declared.pref_entry.PrefEntry.{PrefEntry}
+use Rattle.prefs_model.specs.declared.pref_pair.PrefPair.{PrefPair}
 use Rattle.prefs_model.specs.declared.pref_value.PrefValue.{PrefValue}
+use Rattle.prefs_model.specs.Entry.{HasFirstValues, IsLeastUnset}
+use Rattle.prefs_model.specs.Map.{IsMap}
+use Rattle.prefs_proto.specs.declared.decode_error.DecodeError.{DecodeError}
+use Rattle.prefs_proto.specs.declared.decode_error.DecodeError.TheVariants as refused
 use Rattle.prefs_model.specs.declared.pref_value.PrefValue.TheVariants.{Text, Texts}
 use Rattle.prefs_proto.specs.declared.draft.Draft.{Draft}
 use Rattle.prefs_proto.specs.declared.draft.Draft.TheVariants.{Unset, One, Run}
@@ -177,3 +182,14 @@ abbrev pub MapRead : List ℕ → Result MapFound Stop → Type 0
 MapRead bytes (Ok found) = MapIs bytes found
 MapRead bytes (Err (Wire e)) = FileFault bytes e
 MapRead bytes (Err NoMemory) = Unit {0}
+
+-- ---- the values
+
+-- the map of what the last entries say, or the least key that has no value
+abbrev pub ValuesSettled : List PrefEntry → Result (List PrefPair) DecodeError → Type 0
+ValuesSettled said (Ok pairs) = IsMap pairs × HasFirstValues (reverse said) pairs
+ValuesSettled said (Err (refused.Wire e)) = ⊥
+ValuesSettled said (Err (refused.NotUtf8 place)) = ⊥
+ValuesSettled said (Err (refused.ValueNotSet name)) = IsLeastUnset (reverse said) name
+ValuesSettled said (Err (refused.KeyTooLong place)) = ⊥
+ValuesSettled said (Err refused.NoMemory) = Unit {0}

@@ -4,7 +4,6 @@ pub mod FieldText
 pub mod Found
 pub mod Layout
 pub mod Message
-pub mod Reading
 pub mod Reads
 pub mod ValueText
 pub mod Varint

@@ -1,5 +1,5 @@
 -- The message `Value` of preferences.proto: a tag byte and the member's payload.
-use Rattle.std.specs.Prelude.{ℕ, List, [], ◌∷◌, FitsSigned, if◌then◌else◌}
+use Rattle.std.specs.Prelude.{ℕ, List, [], ◌∷◌, if◌then◌else◌}
 use Rattle.std.specs.Int.{w32, w64, cast_unsigned, to_le_bytes}
 use Rattle.std.specs.List.{flat_map}
 use Rattle.prefs_model.specs.declared.pref_value.PrefValue.{PrefValue}
@@ -21,8 +21,3 @@ value_text (Float bits) = 0x15 ∷ to_le_bytes w32 bits
 value_text (Double bits) = 0x39 ∷ to_le_bytes w64 bits
 value_text (Text text) = field 0x2a text
 value_text (Texts texts) = field 0x32 (set_text texts)
-
--- a value that the narrow decoder reads
-abbrev pub IsInt : PrefValue → Type 0
-IsInt (Int number) = FitsSigned w32 number
-IsInt other = ⊥

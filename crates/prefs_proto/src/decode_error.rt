@@ -1,4 +1,4 @@
-ghost use Rattle.std.specs.Prelude.{◌≡◌};
+ghost use Rattle.std.specs.Prelude.{◌≡◌, ◌↔◌, IsTrue};
 
 use prefs_model::PrefKey;
 use wire_codec::WireError;
@@ -16,4 +16,16 @@ pub enum DecodeError {
     KeyTooLong { place: u64 },
     /// Memory ran out.
     NoMemory,
+}
+
+impl DecodeError {
+    /// Whether memory ran out, which says nothing of the bytes.
+    pub fn is_no_memory(&self) -> bool
+        ensures { IsTrue result ↔ (self.now ≡ DecodeError.NoMemory) }
+    {
+        match self {
+            DecodeError::NoMemory => true,
+            _ => false,
+        }
+    }
 }

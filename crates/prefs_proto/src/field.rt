@@ -1,10 +1,8 @@
-ghost use Rattle.std.specs.Prelude.{◌≡◌, ◌+◌, ◌-◌, ◌<◌, ◌^◌, ◌∷◌, ◌++◌, length, min, OnOk, IfSome};
+ghost use Rattle.std.specs.Prelude.{◌≡◌, ◌+◌, ◌-◌, ◌<◌, ◌^◌, ◌∷◌, ◌++◌, length, min, OnOk};
 ghost use Rattle.prefs_proto.specs.Varint.{varint};
 ghost use Rattle.prefs_proto.specs.FieldText.{field};
-ghost use Rattle.prefs_proto.specs.Reading.{Gives, field_at};
 
-use crate::tag::read_tag;
-use crate::varint::{put_varint, read_varint, varint_len};
+use crate::varint::{put_varint, varint_len};
 use std::alloc::AllocError;
 
 /// How many bytes a field takes whose content has `len` bytes: its tag, the length and the content.
@@ -35,18 +33,4 @@ pub fn put_field(out: &mut Vec<u8>, tag: u8, content: &[u8]) -> Result<(), Alloc
 {
     put_head(out, tag, content.len() as u64)?;
     out.extend_from_slice(content)
-}
-
-/// The content of the field at the front, and the bytes behind it.
-#[tactic(auto, unfolding(crate::specs::Reading::field_at))]
-pub fn read_field(tag: u8, bytes: &[u8]) -> Option<(&[u8], &[u8])>
-    ensures read { Gives (λ x. (x.0.now, x.1.now)) result (field_at tag bytes.now) }
-    ensures rest { IfSome result (λ x. length x.1.now < length bytes.now) }
-{
-    let rest = read_tag(tag, bytes)?;
-    let (len, rest) = read_varint(rest)?;
-    if (rest.len() as u64) < len {
-        return None;
-    }
-    Some(rest.split_at(len as usize))
 }

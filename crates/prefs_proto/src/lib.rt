@@ -3,7 +3,6 @@
 //! Its one contract above is that a map has one text, `encoded`, and that what is read is that text.
 #![tactic(auto)]
 
-mod candidate;
 mod decode_error;
 mod draft;
 mod field;
@@ -24,7 +23,7 @@ mod value;
 mod varint;
 
 pub use decode_error::DecodeError;
-pub use laws::{one_map_from_bytes, shortest_varint};
+pub use laws::{map_is_read, one_map_read, shortest_varint};
 pub use prefs_codec::PrefsCodec;
 
 #[cfg(test)]

@@ -1,14 +1,13 @@
-ghost use Rattle.std.specs.Prelude.{◌≡◌, ◌∷◌, ◌++◌, OnOk, IfSome};
+ghost use Rattle.std.specs.Prelude.{◌≡◌, ◌∷◌, ◌++◌, OnOk};
 ghost use Rattle.std.specs.Int.{w64, cast_unsigned};
 ghost use Rattle.prefs_proto.specs.FieldText.{count_of};
 ghost use Rattle.prefs_proto.specs.Varint.{varint};
-ghost use Rattle.prefs_proto.specs.ValueText.{value_text, IsInt};
-ghost use Rattle.prefs_proto.specs.Reading.{Gives, value_at};
+ghost use Rattle.prefs_proto.specs.ValueText.{value_text};
 
 use crate::field::{field_len, put_field, put_head};
 use crate::set::{put_texts, texts_len};
-use crate::tag::{self, read_tag};
-use crate::varint::{put_varint, read_varint, varint_len};
+use crate::tag;
+use crate::varint::{put_varint, varint_len};
 use prefs_model::PrefValue;
 use std::alloc::AllocError;
 
@@ -59,16 +58,4 @@ fn put_number(out: &mut Vec<u8>, tag: u8, number: i64) -> Result<(), AllocError>
 {
     out.push(tag)?;
     put_varint(out, number.cast_unsigned())
-}
-
-/// The value that the bytes begin with. Of a number the low 32 bits count.
-#[tactic(auto, unfolding(crate::specs::Reading::value_at))]
-pub fn read_value(bytes: &[u8]) -> Option<PrefValue>
-    ensures read { Gives (λ x. x) result (value_at bytes.now) }
-    ensures value { IfSome result IsInt }
-{
-    let rest = read_tag(tag::INTEGER, bytes)?;
-    let (number, _) = read_varint(rest)?;
-    let low = (number % (1 << 32)) as u32;
-    Some(PrefValue::Int(low.cast_signed()))
 }

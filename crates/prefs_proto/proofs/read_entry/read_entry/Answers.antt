@@ -5,7 +5,7 @@ use Rattle.prefs_proto.proofs.Loops.{entry_none, entry_more, entry_stop, entry_a
 use Rattle.prefs_proto.proofs.read_entry.read_entry.Goals as goal
 
 pub loop-field-init : goal.loop-field-init
-loop-field-init c = rw c.new-reader.ensures (entry_none c.args.place c.args.bytes.now c.new-key.result (c.new-key.ensures ∙ ?))
+loop-field-init c = rw c.new-reader.ensures (entry_none c.args.place c.args.bytes.now c.new-key.result (c.new-key.ensures ∙ c.new.ensures.bytes))
 
 pub returns-in_err-new-in-Ok-Some : goal.returns-in_err-new-in-Ok-Some
 returns-in_err-new-in-Ok-Some c =
