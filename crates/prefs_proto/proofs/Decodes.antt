@@ -117,7 +117,7 @@ no_map bytes (KeyTooLong place) detail memory pairs r =
 no_map bytes NoMemory detail memory pairs r = absurd (memory refl)
 
 pub not_true : (b : Bool) → b ≡ false → IsTrue b → ⊥
-not_true b is yes = cc
+not_true b is holds = cc
 
 -- ---- one map
 
