@@ -1,2 +1,6 @@
+pub mod Entry
+pub mod Key
 pub mod Map
 pub mod Rising
+pub mod Texts
+pub mod Value

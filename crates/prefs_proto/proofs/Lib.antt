@@ -1,8 +1,12 @@
-pub mod Above
-pub mod Encodings
+pub mod Counts
+pub mod Decodes
+pub mod Drafts
 pub mod Fields
-pub mod Fronts
-pub mod Pairs
+pub mod Layouts
+pub mod Loops
+pub mod Places
 pub mod Rows
-pub mod Values
+pub mod Sets
+pub mod Steps
 pub mod Varints
+pub mod Walk

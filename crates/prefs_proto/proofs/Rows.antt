@@ -4,7 +4,8 @@ use Rattle.std.specs.Prelude.{pos, negsuc, codes}
 use Rattle.prefs_model.specs.declared.pref_value.PrefValue.TheVariants.{Int}
 use Rattle.prefs_proto.specs.Varint.{varint, groups}
 use Rattle.prefs_proto.specs.ValueText.{value_text}
-use Rattle.prefs_proto.specs.Encoded.{field, entry_text, pair_text, encoded}
+use Rattle.prefs_proto.specs.FieldText.{field}
+use Rattle.prefs_proto.specs.Encoded.{entry_text, pair_text, encoded}
 
 -- volume is 5
 volume : encoded (record { key = codes "volume"; value = Int (pos 5) } ∷ []) ≡ 0x0a ∷ 0x0c ∷ 0x0a ∷ 0x06 ∷ 0x76 ∷ 0x6f ∷ 0x6c ∷ 0x75 ∷ 0x6d ∷ 0x65 ∷ 0x12 ∷ 0x02 ∷ 0x18 ∷ 0x05 ∷ []

@@ -1,15 +1,10 @@
 -- The one text of a map: the message `PreferenceMap` of preferences.proto, a `map<string, Value>` in field 1.
 -- (Protocol Buffers, "Encoding", sections "Length-Delimited Records" and "Maps".)
-use Rattle.std.specs.Prelude.{ℕ, ◌≡◌, List, ◌∷◌, ◌++◌, All, length}
+use Rattle.std.specs.Prelude.{ℕ, List, ◌++◌}
 use Rattle.std.specs.List.{flat_map}
-use Rattle.prefs_model.specs.Map.{IsMap}
 use Rattle.prefs_model.specs.declared.pref_pair.PrefPair.{PrefPair}
-use Rattle.prefs_proto.specs.Varint.{varint}
-use Rattle.prefs_proto.specs.ValueText.{value_text, IsValue}
-
--- a field that says how long it is: its tag, how many bytes it has, and these
-unfoldable pub field : ℕ → List ℕ → List ℕ
-field tag bytes = tag ∷ varint (length bytes) ++ bytes
+use Rattle.prefs_proto.specs.FieldText.{field}
+use Rattle.prefs_proto.specs.ValueText.{value_text}
 
 -- an entry: the key is field 1, the value field 2
 unfoldable pub entry_text : PrefPair → List ℕ
@@ -21,9 +16,3 @@ pair_text pair = field 0x0a (entry_text pair)
 -- the entries in the order of their keys
 unfoldable pub encoded : List PrefPair → List ℕ
 encoded pairs = flat_map pair_text pairs
-
--- the bytes are the text of this map
-pub record HasText (bytes : List ℕ) (pairs : List PrefPair) : Type 0 where
-  pub map : IsMap pairs
-  pub values : All (λ pair. IsValue pair.value) pairs
-  pub text : bytes ≡ encoded pairs

@@ -1,4 +1,9 @@
 pub mod Encoded
-pub mod Reading
+pub mod Entry
+pub mod FieldText
+pub mod Found
+pub mod Layout
+pub mod Message
+pub mod Reads
 pub mod ValueText
 pub mod Varint

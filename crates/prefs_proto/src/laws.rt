@@ -2,12 +2,18 @@
 
 ghost use Rattle.std.specs.Prelude.{◌≡◌, ◌<◌, ◌^◌, ℕ, List};
 ghost use Rattle.prefs_model.specs.declared.pref_pair.PrefPair.{PrefPair};
+ghost use Rattle.prefs_model.specs.Map.{IsMap};
 ghost use Rattle.prefs_proto.specs.Varint.{varint, IsVarint};
-ghost use Rattle.prefs_proto.specs.Encoded.{HasText};
+ghost use Rattle.prefs_proto.specs.Reads.{Reads};
 
-/// Bytes are the text of at most one map, so what is written is read back as the map that it was.
-pub fn one_map_from_bytes()
-    ensures { (bytes : List ℕ) (a b : List PrefPair) → HasText bytes a → HasText bytes b → a ≡ b }
+/// Bytes are read as at most one map.
+pub fn one_map_read()
+    ensures { (bytes : List ℕ) (a b : List PrefPair) → Reads bytes a → Reads bytes b → a ≡ b }
+{}
+
+/// What is read is a map.
+pub fn map_is_read()
+    ensures { (bytes : List ℕ) (pairs : List PrefPair) → Reads bytes pairs → IsMap pairs }
 {}
 
 /// The varints that are written are the shortest ones of the encoding guide.

@@ -1,12 +1,15 @@
-ghost use Rattle.std.specs.Prelude.{◌≡◌, ◌-◌, ◌^◌, ◌↔◌, All, List, min, length, IfOk, IsTrue};
+ghost use Rattle.std.specs.Prelude.{◌≡◌, ◌-◌, ◌^◌, List, min, length, IfOk, MatchResult};
 ghost use Rattle.store_traits.specs.Decoded.{MatchDecoded};
 ghost use Rattle.prefs_model.specs.declared.pref_pair.PrefPair.{PrefPair};
-ghost use Rattle.prefs_proto.specs.ValueText.{IsValue};
-ghost use Rattle.prefs_proto.specs.Encoded.{encoded, HasText};
+ghost use Rattle.prefs_proto.specs.Encoded.{encoded};
+ghost use Rattle.prefs_proto.specs.Reads.{Reads, Detail};
+ghost use Rattle.prefs_proto.specs.Found.{ValuesSettled};
 
-use crate::candidate::read_candidate;
+use crate::decode_error::DecodeError;
 use crate::map_text::{text_len, text_of};
-use prefs_model::PrefMap;
+use crate::read_map::{MapFound, read_map};
+use crate::stop::Stop;
+use prefs_model::{Entries, PrefEntry, PrefMap};
 use std::alloc::{AllocError, Global};
 use store_traits::{Decoded, FileBytes};
 
@@ -15,18 +18,40 @@ use store_traits::{Decoded, FileBytes};
 pub struct PrefsCodec;
 
 impl PrefsCodec {
-    /// The map whose text the bytes are. What is no map's text is corrupt, also where another reader
-    /// of Protocol Buffers would take it: an unknown field, keys in another order, a longer varint.
-    pub fn decode(&self, alloc: Global, bytes: &[u8]) -> Result<Decoded<PrefMap>, AllocError>
-        ensures { IfOk result (λ decoded. MatchDecoded decoded (HasText bytes.now) ((m : List PrefPair) → HasText bytes.now m → ⊥)) }
+    /// The map that the bytes read as, in time n log n for n bytes, or why they read as none.
+    pub fn decode_detail(&self, alloc: Global, bytes: &[u8]) -> Result<PrefMap, DecodeError>
+        ensures { MatchResult result (Reads bytes.now) (Detail bytes.now) }
     {
-        let Some(map) = read_candidate(alloc, bytes)? else {
-            return Ok(Decoded::Corrupt);
+        let _length = bytes.len();
+        let found = match read_map(alloc, bytes) {
+            Ok(found) => found,
+            Err(Stop::Wire(e)) => return Err(DecodeError::Wire(e)),
+            Err(Stop::NoMemory) => return Err(DecodeError::NoMemory),
         };
-        if !is_text_of(alloc, bytes, &map)? {
-            return Ok(Decoded::Corrupt);
+        let MapFound { entries, bad, long } = found;
+        if let Some(place) = bad {
+            return Err(DecodeError::NotUtf8 { place });
         }
-        Ok(Decoded::Good(map))
+        if let Some(place) = long {
+            return Err(DecodeError::KeyTooLong { place });
+        }
+        settle(alloc, entries)
+    }
+
+    /// The map that the bytes read as; corrupt exactly where they read as none.
+    pub fn decode(&self, alloc: Global, bytes: &[u8]) -> Result<Decoded<PrefMap>, AllocError>
+        ensures { IfOk result (λ decoded. MatchDecoded decoded (Reads bytes.now) ((m : List PrefPair) → Reads bytes.now m → ⊥)) }
+    {
+        match self.decode_detail(alloc, bytes) {
+            Ok(map) => Ok(Decoded::Good(map)),
+            Err(e) => {
+                if e.is_no_memory() {
+                    Err(AllocError)
+                } else {
+                    Ok(Decoded::Corrupt)
+                }
+            }
+        }
     }
 
     /// The one text of the map.
@@ -36,7 +61,7 @@ impl PrefsCodec {
         Ok(FileBytes::new(text_of(alloc, value.pairs())?))
     }
 
-    /// How many bytes that text has, at most 2^64 - 1.
+    /// How many bytes that text has, at most 2^64 - 1. It takes no memory.
     pub fn encoded_len(&self, value: &PrefMap) -> u64
         ensures { result ≡ min (length (encoded value.now)) (2 ^ 64 - 1) }
     {
@@ -44,11 +69,17 @@ impl PrefsCodec {
     }
 }
 
-/// Whether the bytes are the text of the map.
-fn is_text_of(alloc: Global, bytes: &[u8], map: &PrefMap) -> Result<bool, AllocError>
-    requires { All (λ pair. IsValue pair.value) map.now }
-    ensures { IfOk result (λ is_text. IsTrue is_text ↔ HasText bytes.now map.now) }
+/// The map of what the last entries say, or the least key that has no value.
+fn settle(alloc: Global, entries: Entries<PrefEntry>) -> Result<PrefMap, DecodeError>
+    ensures { ValuesSettled entries result }
 {
-    let text = text_of(alloc, map.pairs())?;
-    Ok(text.as_slice() == bytes)
+    match PrefMap::from_set_entries(alloc, entries) {
+        Ok(Ok(map)) => {
+            // A map is known by its pairs, whose keys rise.
+            let _ = map.pairs();
+            Ok(map)
+        }
+        Ok(Err(key)) => Err(DecodeError::ValueNotSet { key }),
+        Err(_) => Err(DecodeError::NoMemory),
+    }
 }

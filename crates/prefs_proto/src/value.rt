@@ -1,20 +1,29 @@
-ghost use Rattle.std.specs.Prelude.{◌≡◌, ◌++◌, ◌≤◌, length, OnOk, IfSome};
-ghost use Rattle.prefs_proto.specs.ValueText.{value_text, IsValue};
-ghost use Rattle.prefs_proto.specs.Reading.{Gives, value_at};
+ghost use Rattle.std.specs.Prelude.{◌≡◌, ◌∷◌, ◌++◌, OnOk};
+ghost use Rattle.std.specs.Int.{w64, cast_unsigned};
+ghost use Rattle.prefs_proto.specs.FieldText.{count_of};
+ghost use Rattle.prefs_proto.specs.Varint.{varint};
+ghost use Rattle.prefs_proto.specs.ValueText.{value_text};
 
-use crate::tag::{INTEGER, read_tag};
-use crate::varint::{put_varint, read_varint, varint_len};
+use crate::field::{field_len, put_field, put_head};
+use crate::set::{put_texts, texts_len};
+use crate::tag;
+use crate::varint::{put_varint, varint_len};
 use prefs_model::PrefValue;
 use std::alloc::AllocError;
 
-/// How many bytes the text of a value has.
+/// How many bytes the text of a value has, at most 2^64 - 1.
 #[tactic(auto, unfolding(crate::specs::ValueText::value_text))]
 pub fn value_len(value: &PrefValue) -> u64
-    ensures len { result ≡ length (value_text value.now) }
-    ensures few { result ≤ 11 }
+    ensures { result ≡ count_of (value_text value.now) }
 {
     match value {
+        PrefValue::Bool(_) => 2,
         PrefValue::Int(number) => 1 + varint_len(i64::from(*number).cast_unsigned()),
+        PrefValue::Long(number) => 1 + varint_len(number.cast_unsigned()),
+        PrefValue::Float(_) => 5,
+        PrefValue::Double(_) => 9,
+        PrefValue::Text(text) => field_len(text.as_str().len() as u64),
+        PrefValue::Texts(texts) => field_len(texts_len(texts.texts())),
     }
 }
 
@@ -24,21 +33,29 @@ pub fn put_value(out: &mut Vec<u8>, value: &PrefValue) -> Result<(), AllocError>
     ensures { OnOk result (out.new.items ≡ out.old.items ++ value_text value.now) }
 {
     match value {
-        PrefValue::Int(number) => {
-            out.push(INTEGER)?;
-            put_varint(out, i64::from(*number).cast_unsigned())
+        PrefValue::Bool(b) => out.extend_from_slice(&[tag::BOOLEAN, u8::from(*b)]),
+        PrefValue::Int(number) => put_number(out, tag::INTEGER, i64::from(*number)),
+        PrefValue::Long(number) => put_number(out, tag::LONG, *number),
+        PrefValue::Float(bits) => {
+            out.push(tag::FLOAT)?;
+            out.extend_from_slice(&bits.to_le_bytes())
+        }
+        PrefValue::Double(bits) => {
+            out.push(tag::DOUBLE)?;
+            out.extend_from_slice(&bits.to_le_bytes())
+        }
+        PrefValue::Text(text) => put_field(out, tag::TEXT, text.as_str().as_bytes()),
+        PrefValue::Texts(texts) => {
+            put_head(out, tag::TEXTS, texts_len(texts.texts()))?;
+            put_texts(out, texts.texts())
         }
     }
 }
 
-/// The value that the bytes begin with. Of a number the low 32 bits count.
-#[tactic(auto, unfolding(crate::specs::Reading::value_at))]
-pub fn read_value(bytes: &[u8]) -> Option<PrefValue>
-    ensures read { Gives (λ x. x) result (value_at bytes.now) }
-    ensures value { IfSome result IsValue }
+/// Writes a tag and the varint of the 64 bits in two's complement.
+fn put_number(out: &mut Vec<u8>, tag: u8, number: i64) -> Result<(), AllocError>
+    ensures { OnOk result (out.new.items ≡ out.old.items ++ tag ∷ varint (cast_unsigned w64 number)) }
 {
-    let rest = read_tag(INTEGER, bytes)?;
-    let (number, _) = read_varint(rest)?;
-    let low = (number % (1 << 32)) as u32;
-    Some(PrefValue::Int(low.cast_signed()))
+    out.push(tag)?;
+    put_varint(out, number.cast_unsigned())
 }

@@ -2,7 +2,8 @@
 use Rattle.std.specs.Prelude.{ℕ, ◌≡◌, ◌≢◌, ◌≤◌, ◌<◌, ◌⊎◌, Bool, IsTrue, List, [], Option, Some, None, length}
 use Rattle.prefs_model.specs.Map.{with_value}
 use Rattle.prefs_model.specs.declared.pref_pair.PrefPair.{PrefPair}
-use Rattle.prefs_proto.specs.Encoded.{encoded, HasText}
+use Rattle.prefs_proto.specs.Encoded.{encoded}
+use Rattle.prefs_proto.specs.Reads.{Reads}
 use Rattle.folder_disk.specs.declared.call.FolderCall.TheVariants.{ReadMain}
 use Rattle.folder_disk.specs.Contents.{Contents, kept_with, main_alone}
 use Rattle.folder_disk.specs.Due.{fails}
@@ -16,10 +17,10 @@ use Rattle.prefs_tool.specs.declared.status.Status.TheVariants.{Done, Words, Sto
 abbrev pub file_limit : ℕ
 file_limit = 1048576
 
--- main reads as this map: an absent one as the empty map, and its bytes, within the limit, as the map with this text
+-- main reads as this map: an absent one as the empty map, and one within the limit as its bytes do
 abbrev pub ReadsAs : Option (List ℕ) → List PrefPair → Type 0
 ReadsAs None pairs = pairs ≡ []
-ReadsAs (Some bytes) pairs = (length bytes ≤ file_limit) × HasText bytes pairs
+ReadsAs (Some bytes) pairs = (length bytes ≤ file_limit) × Reads bytes pairs
 
 abbrev pub IsUnreadable : Option (List ℕ) → Type 0
 IsUnreadable main = (pairs : List PrefPair) → ReadsAs main pairs → ⊥
@@ -41,13 +42,13 @@ pub record Settles (main_after : Option (List ℕ)) (old new : Contents) : Type 
 
 -- a change of what main reads as went well: it is written where it is one, and is on the disk
 pub record Changes (before after : List PrefPair) (old new : Contents) : Type 0 where
-  pub fits : length (encoded after) ≤ file_limit
+  pub fits : after ≢ before → length (encoded after) ≤ file_limit
   pub same : after ≡ before → Settles old.main old new
   pub other : after ≢ before → Settles (Some (encoded after)) old new
 
 -- a change of what main reads as stopped before its end: before the rename, or behind it
-pub record Stops (after : List PrefPair) (old new : Contents) : Type 0 where
-  pub fits : length (encoded after) ≤ file_limit
+pub record Stops (before after : List PrefPair) (old new : Contents) : Type 0 where
+  pub fits : after ≢ before → length (encoded after) ≤ file_limit
   pub place : Untouched old new ⊎ Replaces (encoded after) old new
 
 -- what the command makes of a map
@@ -58,7 +59,7 @@ after (Set key value) pairs = with_value pairs key value
 abbrev pub StopsInside : Command → Contents → Tally → Contents → Type 0
 StopsInside command old tally new =
     (IsTrue (fails ReadMain tally.due) × Untouched old new)
-    ⊎ ((pairs : List PrefPair) × ReadsAs old.main pairs × Stops (after command pairs) old new)
+    ⊎ ((pairs : List PrefPair) × ReadsAs old.main pairs × Stops pairs (after command pairs) old new)
 
 -- What a status says of the command that got it: why it came, and what the folder holds then.
 -- Where the folder is not told, of its contents nothing is said.

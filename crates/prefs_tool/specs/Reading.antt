@@ -1,7 +1,7 @@
 -- What reading main as a map answers.
 use Rattle.std.specs.Prelude.{ℕ, Bool, IsTrue, List, Option, Result, Ok, Err}
 use Rattle.prefs_model.specs.declared.pref_pair.PrefPair.{PrefPair}
-use Rattle.prefs_proto.specs.Encoded.{HasText}
+use Rattle.prefs_proto.specs.Reads.{Reads}
 use Rattle.folder_disk.specs.declared.call.FolderCall.TheVariants.{ReadMain}
 use Rattle.folder_disk.specs.Due.{fails}
 use Rattle.folder_disk.specs.Tally.{Tally}
@@ -10,11 +10,11 @@ use Rattle.prefs_tool.specs.Outcome.{ReadsAs, IsUnreadable}
 use Rattle.prefs_tool.specs.declared.tool_error.ToolError.{ToolError}
 use Rattle.prefs_tool.specs.declared.tool_error.ToolError.TheVariants.{Storage, Corrupt, Refused, NoMemory}
 
--- the map with this text; corrupt where no map has it
+-- the map that the bytes read as; corrupt where they read as none
 abbrev pub ReadsText : List ℕ → Result (List PrefPair) ToolError → Type 0
-ReadsText bytes (Ok pairs) = HasText bytes pairs
+ReadsText bytes (Ok pairs) = Reads bytes pairs
 ReadsText bytes (Err Storage) = ⊥
-ReadsText bytes (Err Corrupt) = (pairs : List PrefPair) → HasText bytes pairs → ⊥
+ReadsText bytes (Err Corrupt) = (pairs : List PrefPair) → Reads bytes pairs → ⊥
 ReadsText bytes (Err Refused) = ⊥
 ReadsText bytes (Err NoMemory) = Unit {0}
 

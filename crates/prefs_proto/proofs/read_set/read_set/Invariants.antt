@@ -1,0 +1,9 @@
+use Rattle.std.proofs.Common.{length}
+use Rattle.prefs_proto.proofs.Loops.{SetWalk}
+use Rattle.prefs_proto.proofs.read_set.read_set.Given as goal
+
+abbrev pub invariant-loop-field : goal.invariant-loop-field
+invariant-loop-field l = SetWalk l.fn.place l.fn.bytes l.fn.texts l.texts l.reader l.bad
+
+abbrev pub decreases-loop-field : goal.decreases-loop-field
+decreases-loop-field l = length l.reader.rest
