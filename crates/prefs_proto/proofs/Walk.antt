@@ -5,7 +5,7 @@ use Rattle.wire_codec.specs.declared.wire_error.WireError.{WireError}
 use Rattle.wire_codec.specs.Fields.{FieldSeen, IsField, Fields, none, more}
 use Rattle.wire_codec.specs.Faults.{FieldFault}
 use Rattle.wire_codec.specs.Reader.{ReaderSeen, TakesField, IsAtEnd, Next, HasRead}
-use Rattle.wire_codec.proofs.Laws.{field_once, field_some, fields_once, fields_not_fault}
+use Rattle.wire_codec.proofs.Unique.{field_once, field_some, fields_once, fields_not_fault}
 use Rattle.wire_codec.proofs.Walk.{has_read_none, has_read_more, has_read_all}
 use Rattle.prefs_proto.specs.Message.{Gathers, Message, MessageFault, FaultInside, Nested, FaultIn}
 
