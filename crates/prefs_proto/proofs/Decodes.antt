@@ -42,7 +42,7 @@ first_said (x ∷ xs) name =
       | false ↦ first_said xs name
     ]
 
-said_last : (said : List PrefEntry) (entries : List EntrySeen) → said ≡ map entry_said entries → (name : List ℕ) → first_with (reverse said) name ≡ last_value entries name
+pub said_last : (said : List PrefEntry) (entries : List EntrySeen) → said ≡ map entry_said entries → (name : List ℕ) → first_with (reverse said) name ≡ last_value entries name
 said_last said entries is name =
     ap (λ (s : List PrefEntry). first_with (reverse s) name) is ∙ ap (λ (s : List PrefEntry). first_with s name) (reverse-map entries) ∙ first_said (reverse entries) name
 

@@ -10,3 +10,4 @@ pub mod Sets
 pub mod Steps
 pub mod Varints
 pub mod Walk
+pub mod Written

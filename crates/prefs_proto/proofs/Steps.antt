@@ -58,7 +58,7 @@ member_set f bytes old new (Err NoMemory) is h = tt
 text_gives : (f : FieldSeen) (bytes : List ℕ) → bytes_of 6 f ≡ None → bytes_of 5 f ≡ Some bytes → MemberNested f (bytes_of 6 f) (text (record { place = f.payload_place; bytes = bytes }) ∷ [])
 text_gives f bytes no_set is =
     subst (λ (o : Option (List ℕ)). MemberNested f o (text (record { place = f.payload_place; bytes = bytes }) ∷ [])) (sym no_set)
-        (ap (λ (o : Option (List ℕ)). members_from f.payload_place o (scalar_of f.number f.payload)) (sym is))
+    (ap (λ (o : Option (List ℕ)). members_from f.payload_place o (scalar_of f.number f.payload)) (sym is))
 
 pub member_text : (f : FieldSeen) (bytes read : List ℕ) (old : Draft) → bytes_of 6 f ≡ None → bytes_of 5 f ≡ Some bytes → TextRead f.payload_place bytes (Ok read) → MemberGiven f old (One (Text read)) None
 member_text f bytes read old no_set is h = record {
@@ -104,7 +104,7 @@ part_value f bytes name old new (Err NoMemory) is h = tt
 key_gives : (f : FieldSeen) (bytes : List ℕ) → bytes_of 2 f ≡ None → bytes_of 1 f ≡ Some bytes → PartNested f (bytes_of 2 f) (key (record { place = f.payload_place; bytes = bytes }) ∷ [])
 key_gives f bytes no_value is =
     subst (λ (o : Option (List ℕ)). PartNested f o (key (record { place = f.payload_place; bytes = bytes }) ∷ [])) (sym no_value)
-        (ap (λ (o : Option (List ℕ)). map key (texts_from f.payload_place o)) (sym is))
+    (ap (λ (o : Option (List ℕ)). map key (texts_from f.payload_place o)) (sym is))
 
 pub part_key : (f : FieldSeen) (bytes read name : List ℕ) (old : Draft) → bytes_of 2 f ≡ None → bytes_of 1 f ≡ Some bytes → TextRead f.payload_place bytes (Ok read) → PartGiven f name read old old None
 part_key f bytes read name old no_value is h = record {

@@ -5,7 +5,7 @@ use Rattle.std.proofs.Math.Nat.{pow-suc}
 use Rattle.prefs_proto.specs.Varint.{varint, groups, IsVarint}
 
 -- what is left behind seven bits has seven bits fewer
-high_below : (more n : ℕ) → n < 128 ^ suc (suc more) → n / 128 < 128 ^ suc more
+pub high_below : (more n : ℕ) → n < 128 ^ suc (suc more) → n / 128 < 128 ^ suc more
 high_below more n h = omega (arith, h, pow-suc 128 (suc more))
 
 -- room that is not needed changes nothing

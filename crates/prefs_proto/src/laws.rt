@@ -1,14 +1,20 @@
 //! The laws of the texts: each is the contract of a function that does nothing.
 
-ghost use Rattle.std.specs.Prelude.{◌≡◌, ◌<◌, ◌^◌, ℕ, List};
+ghost use Rattle.std.specs.Prelude.{◌≡◌, ◌<◌, ◌^◌, ℕ, List, length};
 ghost use Rattle.prefs_model.specs.declared.pref_pair.PrefPair.{PrefPair};
 ghost use Rattle.prefs_model.specs.Map.{IsMap};
 ghost use Rattle.prefs_proto.specs.Varint.{varint, IsVarint};
+ghost use Rattle.prefs_proto.specs.Encoded.{encoded};
 ghost use Rattle.prefs_proto.specs.Reads.{Reads};
 
 /// Bytes are read as at most one map.
 pub fn one_map_read()
     ensures { (bytes : List ℕ) (a b : List PrefPair) → Reads bytes a → Reads bytes b → a ≡ b }
+{}
+
+/// What is written of a map reads as that map, where 64 bits count its bytes.
+pub fn written_is_read()
+    ensures { (pairs : List PrefPair) → IsMap pairs → length (encoded pairs) < 2 ^ 64 → Reads (encoded pairs) pairs }
 {}
 
 /// What is read is a map.

@@ -1,6 +1,7 @@
-//! Settings as bytes: the message `PreferenceMap` of Android DataStore's `preferences.proto`.
-//! It stands on `prefs_model` and `store_traits`.
-//! Its one contract above is that a map has one text, `encoded`, and that what is read is that text.
+//! Settings as bytes: the message `PreferenceMap` of Android DataStore's `preferences.proto`. It stands on
+//! `wire_codec` for the fields, on `prefs_model` for the map and on `store_traits`.
+//! Its contracts above are that of `decode_detail`, which map the bytes read as or why they read as none, and
+//! that of `encode`, the one text of a map; the laws tie the two together.
 #![tactic(auto)]
 
 mod decode_error;
@@ -23,7 +24,7 @@ mod value;
 mod varint;
 
 pub use decode_error::DecodeError;
-pub use laws::{map_is_read, one_map_read, shortest_varint};
+pub use laws::{map_is_read, one_map_read, shortest_varint, written_is_read};
 pub use prefs_codec::PrefsCodec;
 
 #[cfg(test)]

@@ -5,7 +5,11 @@ use prefs_model::{Entries, PrefText};
 use std::alloc::{AllocError, Global};
 
 /// The bytes as a text, or their place where they are none.
-pub(crate) fn read_text(alloc: Global, bytes: &[u8], place: u64) -> Result<Result<PrefText, u64>, AllocError>
+pub(crate) fn read_text(
+    alloc: Global,
+    bytes: &[u8],
+    place: u64,
+) -> Result<Result<PrefText, u64>, AllocError>
     ensures { IfOk result (TextRead place bytes.now) }
 {
     let Ok(text) = std::str::from_utf8(bytes) else {

@@ -82,11 +82,46 @@ fn has_text(alloc: Global, key: &str, value: PrefValue, text: &[u8]) -> Result<b
 #[test]
 fn numbers(rt: HostRuntime) -> Result<(), Fail> {
     let alloc = rt.alloc();
-    assert!(rt; has_text(alloc, "volume", PrefValue::Int(5), b"\x0a\x0c\x0a\x06volume\x12\x02\x18\x05")?);
-    assert!(rt; has_text(alloc, "m", PrefValue::Int(-1), b"\x0a\x10\x0a\x01m\x12\x0b\x18\xff\xff\xff\xff\xff\xff\xff\xff\xff\x01")?);
-    assert!(rt; has_text(alloc, "f", PrefValue::Float(0x7fc0_0001), b"\x0a\x0a\x0a\x01f\x12\x05\x15\x01\x00\xc0\x7f")?);
-    assert!(rt; has_text(alloc, "m", PrefValue::Long(i64::MIN), b"\x0a\x10\x0a\x01m\x12\x0b\x20\x80\x80\x80\x80\x80\x80\x80\x80\x80\x01")?);
-    assert!(rt; has_text(alloc, "d", PrefValue::Double(1), b"\x0a\x0e\x0a\x01d\x12\x09\x39\x01\x00\x00\x00\x00\x00\x00\x00")?);
+    assert!(rt;
+        has_text(
+            alloc,
+            "volume",
+            PrefValue::Int(5),
+            b"\x0a\x0c\x0a\x06volume\x12\x02\x18\x05"
+        )?
+    );
+    assert!(rt;
+        has_text(
+            alloc,
+            "m",
+            PrefValue::Int(-1),
+            b"\x0a\x10\x0a\x01m\x12\x0b\x18\xff\xff\xff\xff\xff\xff\xff\xff\xff\x01"
+        )?
+    );
+    assert!(rt;
+        has_text(
+            alloc,
+            "f",
+            PrefValue::Float(0x7fc0_0001),
+            b"\x0a\x0a\x0a\x01f\x12\x05\x15\x01\x00\xc0\x7f"
+        )?
+    );
+    assert!(rt;
+        has_text(
+            alloc,
+            "m",
+            PrefValue::Long(i64::MIN),
+            b"\x0a\x10\x0a\x01m\x12\x0b\x20\x80\x80\x80\x80\x80\x80\x80\x80\x80\x01"
+        )?
+    );
+    assert!(rt;
+        has_text(
+            alloc,
+            "d",
+            PrefValue::Double(1),
+            b"\x0a\x0e\x0a\x01d\x12\x09\x39\x01\x00\x00\x00\x00\x00\x00\x00"
+        )?
+    );
     Ok(())
 }
 
@@ -94,10 +129,38 @@ fn numbers(rt: HostRuntime) -> Result<(), Fail> {
 #[test]
 fn texts_and_sets(rt: HostRuntime) -> Result<(), Fail> {
     let alloc = rt.alloc();
-    assert!(rt; has_text(alloc, "t", PrefValue::Bool(true), b"\x0a\x07\x0a\x01t\x12\x02\x08\x01")?);
-    assert!(rt; has_text(alloc, "s", PrefValue::Text(text_of(alloc, "hi")?), b"\x0a\x09\x0a\x01s\x12\x04\x2a\x02hi")?);
-    assert!(rt; has_text(alloc, "e", set_of(alloc, &[])?, b"\x0a\x07\x0a\x01e\x12\x02\x32\x00")?);
-    assert!(rt; has_text(alloc, "e", set_of(alloc, &["b", "", "aa"])?, b"\x0a\x10\x0a\x01e\x12\x0b\x32\x09\x0a\x00\x0a\x02aa\x0a\x01b")?);
+    assert!(rt;
+        has_text(
+            alloc,
+            "t",
+            PrefValue::Bool(true),
+            b"\x0a\x07\x0a\x01t\x12\x02\x08\x01"
+        )?
+    );
+    assert!(rt;
+        has_text(
+            alloc,
+            "s",
+            PrefValue::Text(text_of(alloc, "hi")?),
+            b"\x0a\x09\x0a\x01s\x12\x04\x2a\x02hi"
+        )?
+    );
+    assert!(rt;
+        has_text(
+            alloc,
+            "e",
+            set_of(alloc, &[])?,
+            b"\x0a\x07\x0a\x01e\x12\x02\x32\x00"
+        )?
+    );
+    assert!(rt;
+        has_text(
+            alloc,
+            "e",
+            set_of(alloc, &["b", "", "aa"])?,
+            b"\x0a\x10\x0a\x01e\x12\x0b\x32\x09\x0a\x00\x0a\x02aa\x0a\x01b"
+        )?
+    );
     Ok(())
 }
 
@@ -107,19 +170,49 @@ fn other_spellings(rt: HostRuntime) -> Result<(), Fail> {
     let alloc = rt.alloc();
     let two = map_of(alloc, "a", PrefValue::Int(2))?;
     // The key twice, an unknown group, and varints that are longer than they need be.
-    assert!(rt; reads_as(alloc, b"\x0a\x07\x0a\x01a\x12\x02\x18\x01\x2b\x08\x01\x2c\x0a\x88\x00\x0a\x01a\x12\x03\x18\x82\x00", &two)?);
+    assert!(rt;
+        reads_as(
+            alloc,
+            b"\x0a\x07\x0a\x01a\x12\x02\x18\x01\x2b\x08\x01\x2c\x0a\x88\x00\x0a\x01a\x12\x03\x18\x82\x00",
+            &two
+        )?
+    );
     // The last entry of the key has a value, and the one before it has none.
-    assert!(rt; reads_as(alloc, b"\x0a\x07\x0a\x01a\x12\x02\x48\x01\x0a\x07\x0a\x01a\x12\x02\x18\x02", &two)?);
+    assert!(rt;
+        reads_as(
+            alloc,
+            b"\x0a\x07\x0a\x01a\x12\x02\x48\x01\x0a\x07\x0a\x01a\x12\x02\x18\x02",
+            &two
+        )?
+    );
     let nameless = map_of(alloc, "", PrefValue::Int(5))?;
     assert!(rt; reads_as(alloc, b"\x0a\x04\x12\x02\x18\x05", &nameless)?);
     // The value before the key, in two parts; the last member counts.
     let yes = map_of(alloc, "k", PrefValue::Bool(true))?;
-    assert!(rt; reads_as(alloc, b"\x0a\x0b\x12\x02\x18\x05\x0a\x01k\x12\x02\x08\x07", &yes)?);
+    assert!(rt;
+        reads_as(
+            alloc,
+            b"\x0a\x0b\x12\x02\x18\x05\x0a\x01k\x12\x02\x08\x07",
+            &yes
+        )?
+    );
     // String sets that no other member parts are joined; equal texts count once.
     let both = map_of(alloc, "k", set_of(alloc, &["a", "b"])?)?;
-    assert!(rt; reads_as(alloc, b"\x0a\x14\x0a\x01k\x12\x0f\x32\x03\x0a\x01b\x32\x03\x0a\x01a\x32\x03\x0a\x01b", &both)?);
+    assert!(rt;
+        reads_as(
+            alloc,
+            b"\x0a\x14\x0a\x01k\x12\x0f\x32\x03\x0a\x01b\x32\x03\x0a\x01a\x32\x03\x0a\x01b",
+            &both
+        )?
+    );
     let one = map_of(alloc, "k", set_of(alloc, &["a"])?)?;
-    assert!(rt; reads_as(alloc, b"\x0a\x11\x0a\x01k\x12\x0c\x32\x03\x0a\x01b\x18\x01\x32\x03\x0a\x01a", &one)?);
+    assert!(rt;
+        reads_as(
+            alloc,
+            b"\x0a\x11\x0a\x01k\x12\x0c\x32\x03\x0a\x01b\x18\x01\x32\x03\x0a\x01a",
+            &one
+        )?
+    );
     Ok(())
 }
 
@@ -128,7 +221,10 @@ fn other_spellings(rt: HostRuntime) -> Result<(), Fail> {
 fn refusals(rt: HostRuntime) -> Result<(), Fail> {
     let alloc = rt.alloc();
     for (bytes, want) in [
-        (b"\x08\x80\x80\x80\x80\x80\x80\x80\x80\x80\x80\x00".as_slice(), "VarintTooLong 1"),
+        (
+            b"\x08\x80\x80\x80\x80\x80\x80\x80\x80\x80\x80\x00".as_slice(),
+            "VarintTooLong 1",
+        ),
         (b"\x80\x80\x80\x80\x10".as_slice(), "TagTooLarge 0"),
         (b"\x00".as_slice(), "FieldZero 0"),
         (b"\x0e".as_slice(), "BadWireType 0"),
@@ -136,21 +232,48 @@ fn refusals(rt: HostRuntime) -> Result<(), Fail> {
         (b"\x0a".as_slice(), "PastEnd 1"),
         (b"\x0c".as_slice(), "LoneEndGroup 0"),
         (b"\x0b".as_slice(), "GroupOpen 0"),
-                (b"\x0a\x07\x0a\x01\xff\x12\x02\x18\x01".as_slice(), "NotUtf8 4"),
-        (b"\x0a\x07\x0a\x01a\x12\x02\x48\x01".as_slice(), "ValueNotSet a"),
+        (
+            b"\x0a\x07\x0a\x01\xff\x12\x02\x18\x01".as_slice(),
+            "NotUtf8 4",
+        ),
+        (
+            b"\x0a\x07\x0a\x01a\x12\x02\x48\x01".as_slice(),
+            "ValueNotSet a",
+        ),
         // A fault of the wire format stands before a text that is none.
-        (b"\x0a\x07\x0a\x01\xff\x12\x02\x18\x01\x00".as_slice(), "FieldZero 9"),
+        (
+            b"\x0a\x07\x0a\x01\xff\x12\x02\x18\x01\x00".as_slice(),
+            "FieldZero 9",
+        ),
         // A text that is none stands before a value that is not set.
-        (b"\x0a\x03\x0a\x01a\x0a\x07\x0a\x01\xff\x12\x02\x18\x01".as_slice(), "NotUtf8 9"),
+        (
+            b"\x0a\x03\x0a\x01a\x0a\x07\x0a\x01\xff\x12\x02\x18\x01".as_slice(),
+            "NotUtf8 9",
+        ),
         // A bad key that a later one replaces, and a bad text that a later member replaces.
-        (b"\x0a\x0a\x0a\x01\xff\x0a\x01a\x12\x02\x18\x01".as_slice(), "NotUtf8 4"),
-        (b"\x0a\x0a\x0a\x01a\x12\x05\x2a\x01\xff\x18\x01".as_slice(), "NotUtf8 9"),
+        (
+            b"\x0a\x0a\x0a\x01\xff\x0a\x01a\x12\x02\x18\x01".as_slice(),
+            "NotUtf8 4",
+        ),
+        (
+            b"\x0a\x0a\x0a\x01a\x12\x05\x2a\x01\xff\x18\x01".as_slice(),
+            "NotUtf8 9",
+        ),
         // A set value, and then an entry of the same key without a member.
-        (b"\x0a\x07\x0a\x01a\x12\x02\x18\x01\x0a\x03\x0a\x01a".as_slice(), "ValueNotSet a"),
+        (
+            b"\x0a\x07\x0a\x01a\x12\x02\x18\x01\x0a\x03\x0a\x01a".as_slice(),
+            "ValueNotSet a",
+        ),
         // The least key of two.
-        (b"\x0a\x03\x0a\x01b\x0a\x03\x0a\x01a".as_slice(), "ValueNotSet a"),
+        (
+            b"\x0a\x03\x0a\x01b\x0a\x03\x0a\x01a".as_slice(),
+            "ValueNotSet a",
+        ),
         // Inside a string set, a value and an entry.
-        (b"\x0a\x08\x0a\x01a\x12\x03\x32\x01\x00".as_slice(), "FieldZero 9"),
+        (
+            b"\x0a\x08\x0a\x01a\x12\x03\x32\x01\x00".as_slice(),
+            "FieldZero 9",
+        ),
         (b"\x0a\x06\x0a\x01a\x12\x01\x0b".as_slice(), "GroupOpen 7"),
         (b"\x0a\x02\x0a\x05".as_slice(), "PastEnd 4"),
     ] {

@@ -1,5 +1,5 @@
 -- A key that has the value already: the folder is synced, and nothing else is done.
-use Rattle.std.proofs.Common.{◌≡◌, ◌≤◌, inl, inr, ℕ, Bool, false, IsTrue, Result, Ok, Err, Option, Some, None, List, [], ◌⊎◌, ◌∙◌, length, sym, ap, subst}
+use Rattle.std.proofs.Common.{◌≡◌, ◌≢◌, ◌≤◌, inl, inr, ℕ, Bool, false, IsTrue, Result, Ok, Err, Option, Some, None, List, [], ◌⊎◌, ◌∙◌, length, sym, ap, subst}
 use Rattle.folder_disk.specs.Contents.{Contents}
 use Rattle.folder_disk.specs.Tally.{Tally}
 use Rattle.store_traits.proofs.FaultLemmas.{rose_since}
@@ -55,25 +55,30 @@ reads_bytes told main bytes before now (Err Corrupt) read text = λ is_told. sub
 reads_bytes told main bytes before now (Err Refused) read text = absurd text
 reads_bytes told main bytes before now (Err NoMemory) read text = tt
 
+-- a key that gets another value makes another map
+changes : (pairs : List PrefPair) (key : List ℕ) (value : PrefValue) → (value_at pairs key ≡ Some value → ⊥) → with_value pairs key value ≢ pairs
+changes pairs key value other unchanged =
+    other (ap (λ (m : List PrefPair). value_at m key) (sym unchanged) ∙ value_at-with_value pairs key value)
+
 -- a map that was stored because its key had another value
 pub stored : {T : Type 0} (told : Bool) (old middle new : Contents) (before since now : Tally) (pairs : List PrefPair) (key : List ℕ) (value : PrefValue) (result : Result T ToolError)
     → (IsTrue told → ReadsAs old.main pairs) → (value_at pairs key ≡ Some value → ⊥) → (IsTrue told → middle ≡ old) → before.count ≤ since.count
     → StoresMap told (with_value pairs key value) middle since new now result → Outcome told (Set key value) old before (status_after result) new now
 stored told old middle new before since now pairs key value (Ok done) reads other same later s = λ is_told. (
-    pairs,
-    reads is_told,
-    record {
-      fits = λ _. s.0;
-      same = λ unchanged. absurd (other (ap (λ (m : List PrefPair). value_at m key) (sym unchanged) ∙ value_at-with_value pairs key value));
-      other = λ _. subst (λ (c : Contents). Settles (Some (encoded (with_value pairs key value))) c new) (same is_told) (s.1 is_told);
-    },
-  )
+  pairs,
+  reads is_told,
+  record {
+    fits = λ _. s.0;
+    same = λ unchanged. absurd (changes pairs key value other unchanged);
+    other = λ _. subst (λ (c : Contents). Settles (Some (encoded (with_value pairs key value))) c new) (same is_told) (s.1 is_told);
+  },
+)
 stored told old middle new before since now pairs key value (Err Storage) reads other same later s = (
-    rose_since _ _ _ later s.1,
-    λ is_told. inr (pairs, reads is_told, record { fits = λ _. s.0; place = subst (λ (c : Contents). Untouched c new ⊎ Replaces (encoded (with_value pairs key value)) c new) (same is_told) (s.2 is_told) }),
-  )
+  rose_since _ _ _ later s.1,
+  λ is_told. inr (pairs, reads is_told, record { fits = λ _. s.0; place = subst (λ (c : Contents). Untouched c new ⊎ Replaces (encoded (with_value pairs key value)) c new) (same is_told) (s.2 is_told) }),
+)
 stored told old middle new before since now pairs key value (Err Corrupt) reads other same later s = absurd s
-stored told old middle new before since now pairs key value (Err Refused) reads other same later s = λ is_told. (pairs, reads is_told, s.0, subst (λ (c : Contents). Untouched c new) (same is_told) (s.1 is_told))
+stored told old middle new before since now pairs key value (Err Refused) reads other same later s = λ is_told. (pairs, reads is_told, changes pairs key value other, s.0, subst (λ (c : Contents). Untouched c new) (same is_told) (s.1 is_told))
 stored told old middle new before since now pairs key value (Err NoMemory) reads other same later s = λ is_told. subst (λ (c : Contents). Untouched c new) (same is_told) (s is_told)
 
 pub no_truth : (b : Bool) → b ≡ false → IsTrue b → ⊥

@@ -70,5 +70,6 @@ Outcome told command old before Words new now = ⊥
 Outcome told command old before Storage new now = Rose before.count now.count × (IsTrue told → StopsInside command old before new)
 Outcome told command old before Corrupt new now = IsTrue told → IsUnreadable old.main × Untouched old new
 Outcome told command old before Refused new now =
-    IsTrue told → (pairs : List PrefPair) × ReadsAs old.main pairs × (file_limit < length (encoded (after command pairs))) × Untouched old new
+    IsTrue told → (pairs : List PrefPair) × ReadsAs old.main pairs × (after command pairs ≢ pairs)
+    × (file_limit < length (encoded (after command pairs))) × Untouched old new
 Outcome told command old before NoMemory new now = IsTrue told → Untouched old new

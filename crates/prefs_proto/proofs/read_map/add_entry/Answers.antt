@@ -13,7 +13,7 @@ returns-in_ok-push-in-Ok c =
     let same : c.in-Ok.key ≡ found.key = c.in-Ok.ensures ∙ c.into_string.ensures in
     let short : length found.key ≤ 1024 = omega (arith, c.key.invariant, ap length c.key.view_is, ap length same) in
     entry_added (field_seen c.args.field.now) c.in-Some.bytes.now found c.args.found.now new c.in-Some.ensures read c.least_of-found.ensures short refl
-        (pushed_as c.args.found.now.entries c.push.new.self c.in-Ok.key found.key c.in_ok-value-in-Ok.value (settled found.draft) c.in_ok-push-in-Ok.ensures.ok same c.in_ok-value-in-Ok.ensures)
+    (pushed_as c.args.found.now.entries c.push.new.self c.in-Ok.key found.key c.in_ok-value-in-Ok.value (settled found.draft) c.in_ok-push-in-Ok.ensures.ok same c.in_ok-value-in-Ok.ensures)
 
 pub returns-in-Err : goal.returns-in-Err
 returns-in-Err c =

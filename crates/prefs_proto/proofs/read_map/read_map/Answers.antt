@@ -23,5 +23,5 @@ returns-in_err-add_entry-in-Ok-Some c =
     let takes = rw c.in-Ok-Some.field-0-is at c.in-Ok-Some.ensures.next in
     let p = err_from_is_err_and c.from_residual.result c.from_residual.ensures.1 in
     rw (p.1, p.2)
-        (map_stop (Unit {0}) c.args.bytes.now c.loop-field.found c.add_entry.new.found c.loop-field.reader c.next_field.new.self (field_seen c.in-Ok-Some.field) c.in_err-add_entry-in-Ok-Some.field-0.0
-            c.loop-field.invariant takes c.in_err-add_entry-in-Ok-Some.ensures)
+    (map_stop (Unit {0}) c.args.bytes.now c.loop-field.found c.add_entry.new.found c.loop-field.reader c.next_field.new.self (field_seen c.in-Ok-Some.field) c.in_err-add_entry-in-Ok-Some.field-0.0
+    c.loop-field.invariant takes c.in_err-add_entry-in-Ok-Some.ensures)

@@ -9,5 +9,5 @@ pub loop-field-preserved : goal.loop-field-preserved
 loop-field-preserved c =
     let takes = rw c.in-Ok-Some.field-0-is at c.in-Ok-Some.ensures.next in
     rw c.least_of-bad.ensures
-        (set_more c.args.place c.args.bytes.now c.args.texts.now c.loop-field.texts c.add_field.new.texts c.loop-field.reader c.next_field.new.self (field_seen c.in-Ok-Some.field) c.loop-field.bad c.in_ok-new-in-Ok-Some.new
-            c.loop-field.invariant takes c.in_ok-new-in-Ok-Some.ensures)
+    (set_more c.args.place c.args.bytes.now c.args.texts.now c.loop-field.texts c.add_field.new.texts c.loop-field.reader c.next_field.new.self (field_seen c.in-Ok-Some.field) c.loop-field.bad c.in_ok-new-in-Ok-Some.new
+    c.loop-field.invariant takes c.in_ok-new-in-Ok-Some.ensures)

@@ -7,4 +7,4 @@ pub loop-text-preserved : goal.loop-text-preserved
 loop-text-preserved c =
     let one : c.field_len.result ≡ count_of (field 0x0a c.as_str.result.now) = c.field_len.ensures ∙ count-field 0x0a c.as_str.result.now (length c.as_str.result.now) (omega arith) in
     count-text_more c.args.texts.now c.loop-text.text-index c.text-item.result c.loop-text.len c.field_len.result c.saturating_add-len.result c.loop-text-test.true c.text-item.is c.loop-text.invariant
-        (subst (λ (text : List ℕ). c.field_len.result ≡ count_of (field 0x0a text)) c.as_str.ensures.value one) c.saturating_add-len.ensures
+    (subst (λ (text : List ℕ). c.field_len.result ≡ count_of (field 0x0a text)) c.as_str.ensures.value one) c.saturating_add-len.ensures
