@@ -1,5 +1,5 @@
 -- The order of keys, byte by byte.
-use Rattle.std.proofs.Common.{◌≡◌, ◌≢◌, ℕ, List, false, refl, sym, ◌∙◌, ap}
+use Rattle.std.proofs.Common.{◌≡◌, ◌≢◌, ℕ, List, true, false, refl, sym, ◌∙◌, ap}
 use Rattle.std.specs.Ordering.{ordering_reverse, is_eq}
 use Rattle.std.specs.declared.cmp.Ordering.{Ordering}
 use Rattle.std.specs.declared.cmp.Ordering.TheVariants.{Less, Equal, Greater}
@@ -11,8 +11,11 @@ use Rattle.prefs_model.specs.Rising.{key_cmp}
 pub key_cmp_same : (key : List ℕ) → key_cmp key key ≡ Equal
 key_cmp_same key = tied_itself nat_list_cmp_total key
 
+pub same_from_is_eq : (a b : List ℕ) → is_eq (key_cmp a b) ≡ true → a ≡ b
+same_from_is_eq a b equal = (bytes_eq-Decides a b).0 (sym (is_eq-slice_cmp a b) ∙ equal)
+
 pub same_from_equal : (a b : List ℕ) → key_cmp a b ≡ Equal → a ≡ b
-same_from_equal a b equal = (bytes_eq-Decides a b).0 (sym (is_eq-slice_cmp a b) ∙ ap is_eq equal)
+same_from_equal a b equal = same_from_is_eq a b (ap is_eq equal)
 
 pub greater_from_less : (a b : List ℕ) → key_cmp a b ≡ Less → key_cmp b a ≡ Greater
 greater_from_less a b less = nat_list_cmp_total.antisymm b a ∙ ap ordering_reverse less

@@ -1,4 +1,6 @@
 pub mod Keys
+mod Latest
 pub mod Maps
 pub mod Rising
 mod Search
+pub mod Texts

@@ -1,12 +1,12 @@
 -- Lists whose keys rise: what stays when an item gets the place of its key, and what is found then.
-use Rattle.std.proofs.Common.{◌≡◌, ◌≢◌, ℕ, List, [], ◌∷◌, ◌++◌, Option, Some, None, refl, sym, ◌∙◌, ap, subst, All, is_some, true, false, zero, suc, get_or, arith, if◌then◌else◌}
+use Rattle.std.proofs.Common.{◌≡◌, ◌≢◌, ℕ, List, [], ◌∷◌, ◌++◌, Option, Some, None, refl, sym, ◌∙◌, ap, subst, All, is_some, option_map, Bool, not, true, false, zero, suc, get_or, arith, if◌then◌else◌}
 use Rattle.std.specs.Ordering.{is_eq}
 use Rattle.std.specs.declared.cmp.Ordering.{Ordering}
 use Rattle.std.specs.declared.cmp.Ordering.TheVariants.{Less, Equal, Greater}
-use Rattle.std.proofs.lemmas.List.Elements.{All-nil, All-cons, All-head, All-tail, All-weaker}
+use Rattle.std.proofs.lemmas.List.Elements.{All-nil, All-cons, All-head, All-tail, All-weaker, All-filter}
 use Rattle.std.proofs.lemmas.Option.{none-some, same_Some}
-use Rattle.prefs_model.specs.Rising.{key_cmp, IsBelow, IsRising, value_under, placed, with_item}
-use Rattle.prefs_model.proofs.Keys.{key_cmp_same, key_cmp_differs, same_from_equal, greater_from_less, less_from_greater, less_trans}
+use Rattle.prefs_model.specs.Rising.{key_cmp, IsBelow, IsRising, IsSortedList, value_under, has_key, placed, with_item, without_key}
+use Rattle.prefs_model.proofs.Keys.{key_cmp_same, key_cmp_differs, same_from_is_eq, same_from_equal, greater_from_less, less_from_greater, less_trans}
 
 module _ {X : Type 0} (key_of : X → List ℕ) where
   pub IsBelow-trans : (a b : List ℕ) (items : List X) → key_cmp a b ≡ Less → IsBelow key_of b items → IsBelow key_of a items
@@ -57,6 +57,43 @@ module _ {X : Type 0} (key_of : X → List ℕ) where
   first_before_last : (item : X) (items : List X) (new : X) → IsRising key_of (item ∷ (items ++ new ∷ [])) → key_cmp (key_of item) (key_of new) ≡ Less
   first_before_last item [] new rising = rising.0
   first_before_last item (next ∷ items) new rising = less_trans (key_of item) (key_of next) (key_of new) rising.0 (first_before_last next items new rising.1)
+
+  pub IsSortedList-with_item : (is_valid : X → Type 0) (items : List X) (new : X) → IsSortedList key_of is_valid items → is_valid new → IsSortedList key_of is_valid (with_item key_of items new)
+  IsSortedList-with_item is_valid items new sorted valid = record {
+    rising = IsRising-with_item items new sorted.rising;
+    valid = All-with_item is_valid items new sorted.valid valid;
+  }
+
+  without_absent_by : (b : Bool) (item : X) (items : List X) (key : List ℕ) → is_some (if b then Some item else value_under key_of (λ item. item) items key) ≡ false → (has_key key_of items key ≡ false → without_key key_of items key ≡ items) → (if not b then item ∷ without_key key_of items key else without_key key_of items key) ≡ item ∷ items
+  without_absent_by true item items key absent behind = cc
+  without_absent_by false item items key absent behind = ap (λ rest. item ∷ rest) (behind absent)
+
+  -- a key that is not there takes nothing out
+  pub without_key_absent : (items : List X) (key : List ℕ) → has_key key_of items key ≡ false → without_key key_of items key ≡ items
+  without_key_absent [] key absent = refl
+  without_key_absent (item ∷ items) key absent = without_absent_by (is_eq (key_cmp key (key_of item))) item items key absent (without_key_absent items key)
+
+  IsBelow-without_key : (least : List ℕ) (items : List X) (key : List ℕ) → IsRising key_of items → IsBelow key_of least items → IsBelow key_of least (without_key key_of items key)
+  IsBelow-without_key least [] key rising below = tt
+  IsBelow-without_key least (item ∷ items) key rising below =
+      elim (is_eq (key_cmp key (key_of item))) as (λ b. IsBelow key_of least (if not b then item ∷ without_key key_of items key else without_key key_of items key)) [
+        | true ↦ IsBelow-without_key least items key rising.1 (IsBelow-trans least (key_of item) items below rising.0)
+        | false ↦ below
+      ]
+
+  pub IsRising-without_key : (items : List X) (key : List ℕ) → IsRising key_of items → IsRising key_of (without_key key_of items key)
+  IsRising-without_key [] key rising = tt
+  IsRising-without_key (item ∷ items) key rising =
+      elim (is_eq (key_cmp key (key_of item))) as (λ b. IsRising key_of (if not b then item ∷ without_key key_of items key else without_key key_of items key)) [
+        | true ↦ IsRising-without_key items key rising.1
+        | false ↦ (IsBelow-without_key (key_of item) items key rising.1 rising.0, IsRising-without_key items key rising.1)
+      ]
+
+  pub IsSortedList-without_key : (is_valid : X → Type 0) (items : List X) (key : List ℕ) → IsSortedList key_of is_valid items → IsSortedList key_of is_valid (without_key key_of items key)
+  IsSortedList-without_key is_valid items key sorted = record {
+    rising = IsRising-without_key items key sorted.rising;
+    valid = All-filter (λ item. not (is_eq (key_cmp key (key_of item)))) is_valid items sorted.valid;
+  }
 
   -- an item with a greater key than all goes to the end
   pub with_item_end : (items : List X) (new : X) → IsRising key_of (items ++ new ∷ []) → with_item key_of items new ≡ items ++ new ∷ []
@@ -109,13 +146,42 @@ module _ {X : Type 0} (key_of : X → List ℕ) where
     each_found (item ∷ items) rising (suc k) d lt =
         found_behind item (get_or items k d) items (first_is_least item items rising k d (omega arith)) (each_found items rising.1 k d (omega arith))
 
-    -- whether a key is found does not hang on what is asked of its item
-    pub found-any : {Z : Type 0} (other : X → Z) (items : List X) (key : List ℕ) → is_some (At items key) ≡ is_some (value_under key_of other items key)
-    found-any other [] key = refl
-    found-any other (item ∷ items) key =
-        elim (is_eq (key_cmp key (key_of item))) as (λ b. is_some (if b then Some (value_of item) else At items key) ≡ is_some (if b then Some (other item) else value_under key_of other items key)) [
+    without_this : (b : Bool) (item : X) (items : List X) (key : List ℕ) → is_eq (key_cmp key (key_of item)) ≡ b → At (without_key key_of items key) key ≡ None → At (if not b then item ∷ without_key key_of items key else without_key key_of items key) key ≡ None
+    without_this true item items key is behind = behind
+    without_this false item items key is behind = rw is behind
+
+    -- a key that was taken out is not found
+    pub value_without_key : (items : List X) (key : List ℕ) → value_under key_of value_of (without_key key_of items key) key ≡ None
+    value_without_key [] key = refl
+    value_without_key (item ∷ items) key = without_this _ item items key refl (value_without_key items key)
+
+    without_other : (b : Bool) (item : X) (items : List X) (key other : List ℕ) → is_eq (key_cmp key (key_of item)) ≡ b → other ≢ key → At (without_key key_of items key) other ≡ At items other → At (if not b then item ∷ without_key key_of items key else without_key key_of items key) other ≡ At (item ∷ items) other
+    without_other true item items key other is differs behind =
+        let same = same_from_is_eq key (key_of item) is in
+        rw (key_cmp_differs other (key_of item) (λ equal. differs (equal ∙ sym same))) behind
+    without_other false item items key other is differs behind = rw behind
+
+    -- at every other key the same is found as before
+    pub value_without_other : (items : List X) (key other : List ℕ) → other ≢ key → value_under key_of value_of (without_key key_of items key) other ≡ value_under key_of value_of items other
+    value_without_other [] key other differs = refl
+    value_without_other (item ∷ items) key other differs = without_other _ item items key other refl differs (value_without_other items key other differs)
+
+    -- what is found of a part of each item
+    pub value_under-found : (items : List X) (key : List ℕ) → value_under key_of value_of items key ≡ option_map value_of (value_under key_of (λ item. item) items key)
+    value_under-found [] key = refl
+    value_under-found (item ∷ items) key =
+        elim (is_eq (key_cmp key (key_of item))) as (λ b. (if b then Some (value_of item) else At items key) ≡ option_map value_of (if b then Some item else value_under key_of (λ item. item) items key)) [
           | true ↦ refl
-          | false ↦ found-any other items key
+          | false ↦ value_under-found items key
+        ]
+
+    -- whether a key is there does not hang on what is asked of its item
+    pub is_some-value_under : (items : List X) (key : List ℕ) → is_some (value_under key_of value_of items key) ≡ has_key key_of items key
+    is_some-value_under [] key = refl
+    is_some-value_under (item ∷ items) key =
+        elim (is_eq (key_cmp key (key_of item))) as (λ b. is_some (if b then Some (value_of item) else At items key) ≡ is_some (if b then Some item else value_under key_of (λ item. item) items key)) [
+          | true ↦ refl
+          | false ↦ is_some-value_under items key
         ]
 
     module _ (one_item : (a b : X) → key_of a ≡ key_of b → value_of a ≡ value_of b → a ≡ b) where

@@ -1,12 +1,13 @@
 -- Where a binary search in items whose keys rise ends, and what an edit at that place does.
-use Rattle.std.proofs.Common.{◌≡◌, ℕ, zero, suc, ◌+◌, ◌<◌, List, [], ◌∷◌, length, get_or, set, Some, None, Result, Ok, Err, IfOk, IfErr, refl, ap, arith}
-use Rattle.std.specs.List.{insert}
+use Rattle.std.proofs.Common.{◌≡◌, ℕ, zero, suc, ◌+◌, ◌<◌, List, [], ◌∷◌, length, get_or, set, Some, None, Result, Ok, Err, IfOk, IfErr, false, refl, ap, inl, inr, arith}
+use Rattle.std.specs.List.{insert, remove}
 use Rattle.std.specs.List.Sorted.{IsSearchInRange, IsBinarySearchResult, IsSortedBy}
-use Rattle.std.specs.Ordering.{is_lt}
+use Rattle.std.specs.Ordering.{is_lt, is_eq}
 use Rattle.std.specs.declared.cmp.Ordering.TheVariants.{Less}
+use Rattle.std.proofs.lemmas.Bool.{cases_lt}
 use Rattle.std.proofs.lemmas.Cmp.{nat_list_cmp_total, tied_back}
 use Rattle.std.proofs.lemmas.List.Sorted.{searchable_from_sorted}
-use Rattle.prefs_model.specs.Rising.{key_cmp, IsRising, IsAt, IsGapFor, value_under, with_item}
+use Rattle.prefs_model.specs.Rising.{key_cmp, IsRising, IsAt, IsGapFor, value_under, with_item, without_key}
 use Rattle.prefs_model.proofs.Rising.{first_is_least}
 use Rattle.prefs_model.proofs.Keys.{same_from_equal, greater_from_less, less_from_greater}
 
@@ -76,6 +77,27 @@ module _ {X : Type 0} (key_of : X → List ℕ) where
   with_item_at (item ∷ items) new zero at = rw (at.here item)
   with_item_at (item ∷ items) new (suc place) at =
       rw (at.before 0 item (omega arith) (omega arith)) (ap (λ rest. item ∷ rest) (with_item_at items new place (at_behind item items (key_of new) place at)))
+
+  -- no item goes where none has the key
+  without_absent : (items : List X) (key : List ℕ) → ((place : ℕ) (d : X) → place < length items → is_eq (key_cmp key (key_of (get_or items place d))) ≡ false) → without_key key_of items key ≡ items
+  without_absent [] key absent = refl
+  without_absent (item ∷ items) key absent =
+      rw (absent 0 item (omega arith)) (ap (λ rest. item ∷ rest) (without_absent items key (λ place d lt. absent (suc place) d (omega arith))))
+
+  pub without_key_gap : (items : List X) (key : List ℕ) (place : ℕ) → IsGapFor key_of items key place → without_key key_of items key ≡ items
+  without_key_gap items key place gap = without_absent items key (λ j d lt. elim (cases_lt j place) [
+    | inl below ↦ ap is_eq (gap.before j d (omega arith) below)
+    | inr from ↦ ap is_eq (gap.after j d from lt)
+  ])
+
+  pub without_key_at : (items : List X) (key : List ℕ) (place : ℕ) → IsRising key_of items → IsAt key_of items key place → without_key key_of items key ≡ remove items place
+  without_key_at [] key place rising at = absurd (omega (arith, at.in_range))
+  without_key_at (item ∷ items) key zero rising at =
+      let same = same_from_equal key (key_of item) (at.here item) in
+      let less = first_is_least key_of item items rising in
+      rw (at.here item) (without_absent items key (λ j d lt. rw (same, less j d lt)))
+  without_key_at (item ∷ items) key (suc place) rising at =
+      rw (at.before 0 item (omega arith) (omega arith)) (ap (λ rest. item ∷ rest) (without_key_at items key place rising.1 (at_behind item items key place at)))
 
   module _ {Y : Type 0} (value_of : X → Y) where
     pub value_in_gap : (items : List X) (key : List ℕ) (place : ℕ) → IsGapFor key_of items key place → value_under key_of value_of items key ≡ None

@@ -1,6 +1,7 @@
-ghost use Rattle.std.specs.Prelude.{◌≡◌, ◌≤◌, ◌<◌, ◌↔◌, ℕ, List, length, IsTrue, IfOk, MatchResult, string_bytes};
-ghost use Rattle.prefs_model.specs.Map.{IsKey};
+ghost use Rattle.std.specs.Prelude.{◌≡◌, ◌<◌, ◌↔◌, length, IsTrue, IfOk, MatchResult, string_bytes};
+ghost use Rattle.prefs_model.specs.Key.{IsKey};
 
+use crate::PrefText;
 use std::alloc::{AllocError, Global};
 use std::marker::Model;
 use thiserror::Error;
@@ -11,7 +12,7 @@ pub const MAX_KEY_LEN: usize = 1024;
 /// The name of a setting: a text of at most 1,024 bytes. Clauses see its bytes.
 #[derive(Drop)]
 pub struct PrefKey {
-    text: String,
+    text: PrefText,
 }
 
 /// A text is too long for a key: it has `len` bytes.
@@ -22,13 +23,13 @@ pub struct KeyTooLong {
 }
 
 impl Model for PrefKey {
-    ghost use Rattle.std.specs.Prelude.{List, ℕ, string_bytes, length, ◌≤◌};
+    ghost use Rattle.std.specs.Prelude.{List, ℕ, length, ◌≤◌};
 
     ghost Value = { List ℕ };
 
-    ghost view = { λ k. string_bytes k.text };
+    ghost view = { λ k. k.text };
 
-    ghost invariant = { λ k. length (string_bytes k.text) ≤ 1024 };
+    ghost invariant = { λ k. length k.text ≤ 1024 };
 }
 
 impl PrefKey {
@@ -40,7 +41,9 @@ impl PrefKey {
         if len > MAX_KEY_LEN {
             return Err(KeyTooLong { len: len as u64 });
         }
-        Ok(PrefKey { text })
+        Ok(PrefKey {
+            text: PrefText::new(text),
+        })
     }
 
     pub fn as_str(&self) -> &str
@@ -54,14 +57,14 @@ impl PrefKey {
     pub fn equal(&self, other: &PrefKey) -> bool
         ensures { IsTrue result ↔ (self.now ≡ other.now) }
     {
-        self.as_str() == other.as_str()
+        self.text.equal(&other.text)
     }
 
     /// An equal key.
     pub fn try_clone(&self, alloc: Global) -> Result<PrefKey, AllocError>
         ensures { IfOk result (λ key. key ≡ self.now) }
     {
-        let text = String::from_str(alloc, self.as_str())?;
+        let text = self.text.try_clone(alloc)?;
         Ok(PrefKey { text })
     }
 }

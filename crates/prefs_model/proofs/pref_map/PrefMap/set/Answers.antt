@@ -1,13 +1,12 @@
-use Rattle.std.proofs.Common.{sym, ◌∙◌}
+use Rattle.std.proofs.Common.{◌≡◌, true, false, sym, ◌∙◌}
 use Rattle.prefs_model.specs.Map.{key_of}
-use Rattle.prefs_model.proofs.Rising.{found-any}
-use Rattle.prefs_model.proofs.Maps.{IsMap-set}
+use Rattle.prefs_model.proofs.Rising.{is_some-value_under}
 use Rattle.prefs_model.proofs.pref_map.PrefMap.set.Goals as goal
 
-pub invariant_of-self : goal.invariant_of-self
-invariant_of-self c = IsMap-set c.insert.result c.self.inside.pairs.items c.insert.new.items.items c.args.key c.args.value c.self.invariant c.as_str.ensures.key c.insert.ensures.ok c.insert.ensures.err
-
-pub returns-clause-overwrite_succeeds : goal.returns-clause-overwrite_succeeds
-returns-clause-overwrite_succeeds c found =
-    let some = rw (← c.self.view_is) at found in
-    c.insert.ensures.overwrite_succeeds (sym (found-any key_of (λ pair. pair.value) (λ pair. pair) c.self.inside.pairs.items c.args.key) ∙ some)
+-- memory fails only for a key that was not there
+pub returns-in_err-insert-clause-overwrite_succeeds :
+    goal.returns-in_err-insert-clause-overwrite_succeeds
+returns-in_err-insert-clause-overwrite_succeeds c found =
+    let there = sym (is_some-value_under key_of (λ pair. pair.value) c.args.self.now c.args.key) ∙ found in
+    let wrong : false ≡ true = c.in_err-insert.ensures.overwrite_succeeds (rw c.self.view_is there) in
+    cc

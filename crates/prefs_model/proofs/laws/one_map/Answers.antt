@@ -1,5 +1,0 @@
-use Rattle.prefs_model.proofs.Maps.{same_from_value_at}
-use Rattle.prefs_model.proofs.laws.one_map.Goals as goal
-
-pub returns : goal.returns
-returns c = same_from_value_at
