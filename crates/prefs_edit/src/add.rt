@@ -16,10 +16,10 @@ pub fn add_int(alloc: Global, map: &mut PrefMap, key: &PrefKey, amount: i32) -> 
     ensures changed { OnOk result (after_step (EditStep.AddInt key.now amount) map.old ≡ Changed map.new) }
     ensures stopped { IfErr result (IsStopOf (after_step (EditStep.AddInt key.now amount) map.old)) }
 {
-    let Some(number) = int_at(map, key) else {
+    let Some(int) = int_at(map, key) else {
         return Err(Stop::Code(WRONG_KIND));
     };
-    let Some(sum) = number.checked_add(amount) else {
+    let Some(sum) = int.checked_add(amount) else {
         return Err(Stop::Code(OUT_OF_RANGE));
     };
     set(alloc, map, key, PrefValue::Int(sum))?;
@@ -32,10 +32,10 @@ pub fn add_long(alloc: Global, map: &mut PrefMap, key: &PrefKey, amount: i64) ->
     ensures changed { OnOk result (after_step (EditStep.AddLong key.now amount) map.old ≡ Changed map.new) }
     ensures stopped { IfErr result (IsStopOf (after_step (EditStep.AddLong key.now amount) map.old)) }
 {
-    let Some(number) = long_at(map, key) else {
+    let Some(long) = long_at(map, key) else {
         return Err(Stop::Code(WRONG_KIND));
     };
-    let Some(sum) = number.checked_add(amount) else {
+    let Some(sum) = long.checked_add(amount) else {
         return Err(Stop::Code(OUT_OF_RANGE));
     };
     set(alloc, map, key, PrefValue::Long(sum))?;
