@@ -53,7 +53,11 @@ fn main(rt: HostRuntime) -> Result<()> {
         bail!("no such work");
     };
     let path = words.next().context("which file?")?;
-    let times = words.next().context("how often?")?.parse::<u32>().context("how often?")?;
+    let times = words
+        .next()
+        .context("how often?")?
+        .parse::<u32>()
+        .context("how often?")?;
     let bytes = fs::read(&rt, path.as_str())?;
     let nanoseconds = timed(&rt, work, &bytes, times)?;
     let len = bytes.len();

@@ -1,5 +1,5 @@
 -- The last of each key: what a stable sort of the turned list and the loss of repeated keys leave.
-use Rattle.std.proofs.Common.{◌≡◌, ◌≢◌, ℕ, zero, suc, ◌+◌, ◌≤◌, ◌<◌, Bool, true, false, not, ◌&&◌, List, [], ◌∷◌, length, get_or, Option, Some, None, refl, sym, ◌∙◌, ap, subst, arith, All, ◌||◌, reverse, is_some, if◌then◌else◌}
+use Rattle.std.proofs.Common.{◌≡◌, ℕ, zero, suc, ◌+◌, Bool, true, false, List, [], ◌∷◌, get_or, Option, Some, None, refl, sym, ◌∙◌, ap, subst, arith, All, ◌||◌, reverse, is_some, if◌then◌else◌}
 use Rattle.std.specs.List.{filter, dedup, dedup_from, list_any, Contains}
 use Rattle.std.specs.List.Sorted.{IsSortedBy, IsStableBy, ties}
 use Rattle.std.specs.Ordering.{is_lt, is_eq}
@@ -11,7 +11,7 @@ use Rattle.std.proofs.lemmas.List.Sorted.{list_any-IsPermutation, IsPermutation-
 use Rattle.std.proofs.lemmas.Option.{none-some, same_Some}
 use Rattle.prefs_model.specs.Rising.{key_cmp, IsBelow, IsRising, value_under, has_key}
 use Rattle.prefs_model.proofs.Rising.{each_found}
-use Rattle.prefs_model.proofs.Keys.{key_cmp_same, key_cmp_differs, same_from_is_eq, same_from_equal, greater_from_less, less_from_greater}
+use Rattle.prefs_model.proofs.Keys.{key_cmp_same, same_from_is_eq, less_from_greater}
 
 module _ {X : Type 0} (key_of : X → List ℕ) where
   abbrev pub has_lesser : X → X → Bool

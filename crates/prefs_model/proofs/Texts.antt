@@ -1,5 +1,5 @@
 -- The laws of a set of texts.
-use Rattle.std.proofs.Common.{◌≡◌, ◌≢◌, ◌↔◌, ℕ, List, Bool, true, false, Option, Some, None, IsTrue, is_some, Contains, refl, sym, ◌∙◌, ap, if◌then◌else◌}
+use Rattle.std.proofs.Common.{◌≡◌, ◌≢◌, ◌↔◌, ℕ, List, true, false, Option, Some, None, IsTrue, is_some, Contains, refl, sym, ◌∙◌, ap, if◌then◌else◌}
 use Rattle.std.specs.Str.{IsUtf8}
 use Rattle.prefs_model.specs.Rising.{value_under, IsRising}
 use Rattle.prefs_model.specs.Texts.{IsTextSet, itself, has_text, with_text, without_text}

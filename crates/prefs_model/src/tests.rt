@@ -98,31 +98,16 @@ fn a_set_has_each_text_once_in_order_of_bytes(rt: HostRuntime) -> Result<(), Fai
 }
 
 #[test]
-fn values_are_equal_to_themselves_and_their_clones_alone(rt: HostRuntime) -> Result<(), Fail> {
+fn values_are_equal_to_their_clones(rt: HostRuntime) -> Result<(), Fail> {
     let mut set = TextSet::new(rt.alloc());
     set.insert(text_of(rt.alloc(), "a")?)?;
-    let values = vec![in rt.alloc();
-        PrefValue::Bool(false),
-        PrefValue::Bool(true),
-        PrefValue::Int(0),
-        PrefValue::Int(-1),
-        PrefValue::Long(0),
-        PrefValue::Long(-1),
-        PrefValue::Float(0),
-        PrefValue::Float(0x8000_0000),
-        PrefValue::Double(0),
-        PrefValue::Double(1),
-        PrefValue::Text(text_of(rt.alloc(), "")?),
-        PrefValue::Text(text_of(rt.alloc(), "a")?),
-        PrefValue::Texts(TextSet::new(rt.alloc())),
-        PrefValue::Texts(set),
-    ]?;
-    for (i, value) in values.iter().enumerate() {
-        assert!(rt; value.equal(&value.try_clone(rt.alloc())?), "{i}");
-        for (j, other) in values.iter().enumerate() {
-            assert_eq!(rt; value.equal(other), i == j, "{i} and {j}");
-        }
-    }
+    let texts = PrefValue::Texts(set);
+    let text = PrefValue::Text(text_of(rt.alloc(), "a")?);
+    assert!(rt; texts.equal(&texts.try_clone(rt.alloc())?));
+    assert!(rt; text.equal(&text.try_clone(rt.alloc())?));
+    assert!(rt; !text.equal(&texts));
+    assert!(rt; !PrefValue::Float(0).equal(&PrefValue::Float(0x8000_0000)));
+    assert!(rt; !PrefValue::Int(1).equal(&PrefValue::Long(1)));
     Ok(())
 }
 

@@ -1,4 +1,3 @@
-use Rattle.std.proofs.Common.{rules}
 use Rattle.prefs_model.proofs.Maps.{IsMap-sorted}
 use Rattle.prefs_model.proofs.pref_map.PrefMap.pairs.Goals as goal
 

@@ -1,4 +1,4 @@
-use Rattle.std.proofs.Common.{sym, ◌∙◌, ap, Some}
+use Rattle.std.proofs.Common.{sym, ap, Some}
 use Rattle.prefs_model.proofs.Search.{value_at_place, value_in_gap}
 use Rattle.prefs_model.proofs.sorted_vec.SortedVec.get.Goals as goal
 

@@ -1,0 +1,6 @@
+mod Fits
+mod Holds
+mod LeftAlone
+mod Maps
+mod Same
+mod Turns
