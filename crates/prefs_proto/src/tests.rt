@@ -70,6 +70,12 @@ fn reads_as(alloc: Global, bytes: &[u8], map: &PrefMap) -> Result<bool, AllocErr
     }
 }
 
+/// Whether the bytes read as this one setting.
+fn spells(alloc: Global, key: &str, value: PrefValue, bytes: &[u8]) -> Result<bool, Fail> {
+    let map = map_of(alloc, key, value)?;
+    Ok(reads_as(alloc, bytes, &map)?)
+}
+
 /// Whether the value has this text, and is read back.
 fn has_text(alloc: Global, key: &str, value: PrefValue, text: &[u8]) -> Result<bool, Fail> {
     let map = map_of(alloc, key, value)?;
@@ -168,49 +174,56 @@ fn texts_and_sets(rt: HostRuntime) -> Result<(), Fail> {
 #[test]
 fn other_spellings(rt: HostRuntime) -> Result<(), Fail> {
     let alloc = rt.alloc();
-    let two = map_of(alloc, "a", PrefValue::Int(2))?;
     // The key twice, an unknown group, and varints that are longer than they need be.
     assert!(rt;
-        reads_as(
+        spells(
             alloc,
-            b"\x0a\x07\x0a\x01a\x12\x02\x18\x01\x2b\x08\x01\x2c\x0a\x88\x00\x0a\x01a\x12\x03\x18\x82\x00",
-            &two
+            "a",
+            PrefValue::Int(2),
+            b"\x0a\x07\x0a\x01a\x12\x02\x18\x01\x2b\x08\x01\x2c\x0a\x88\x00\x0a\x01a\x12\x03\x18\x82\x00"
         )?
     );
     // The last entry of the key has a value, and the one before it has none.
     assert!(rt;
-        reads_as(
+        spells(
             alloc,
-            b"\x0a\x07\x0a\x01a\x12\x02\x48\x01\x0a\x07\x0a\x01a\x12\x02\x18\x02",
-            &two
+            "a",
+            PrefValue::Int(2),
+            b"\x0a\x07\x0a\x01a\x12\x02\x48\x01\x0a\x07\x0a\x01a\x12\x02\x18\x02"
         )?
     );
-    let nameless = map_of(alloc, "", PrefValue::Int(5))?;
-    assert!(rt; reads_as(alloc, b"\x0a\x04\x12\x02\x18\x05", &nameless)?);
+    // No key is the empty key.
+    assert!(rt; spells(alloc, "", PrefValue::Int(5), b"\x0a\x04\x12\x02\x18\x05")?);
     // The value before the key, in two parts; the last member counts.
-    let yes = map_of(alloc, "k", PrefValue::Bool(true))?;
     assert!(rt;
-        reads_as(
+        spells(
             alloc,
-            b"\x0a\x0b\x12\x02\x18\x05\x0a\x01k\x12\x02\x08\x07",
-            &yes
+            "k",
+            PrefValue::Bool(true),
+            b"\x0a\x0b\x12\x02\x18\x05\x0a\x01k\x12\x02\x08\x07"
         )?
     );
-    // String sets that no other member parts are joined; equal texts count once.
-    let both = map_of(alloc, "k", set_of(alloc, &["a", "b"])?)?;
+    Ok(())
+}
+
+/// String sets that no other member parts are joined; equal texts count once.
+#[test]
+fn joined_sets(rt: HostRuntime) -> Result<(), Fail> {
+    let alloc = rt.alloc();
     assert!(rt;
-        reads_as(
+        spells(
             alloc,
-            b"\x0a\x14\x0a\x01k\x12\x0f\x32\x03\x0a\x01b\x32\x03\x0a\x01a\x32\x03\x0a\x01b",
-            &both
+            "k",
+            set_of(alloc, &["a", "b"])?,
+            b"\x0a\x14\x0a\x01k\x12\x0f\x32\x03\x0a\x01b\x32\x03\x0a\x01a\x32\x03\x0a\x01b"
         )?
     );
-    let one = map_of(alloc, "k", set_of(alloc, &["a"])?)?;
     assert!(rt;
-        reads_as(
+        spells(
             alloc,
-            b"\x0a\x11\x0a\x01k\x12\x0c\x32\x03\x0a\x01b\x18\x01\x32\x03\x0a\x01a",
-            &one
+            "k",
+            set_of(alloc, &["a"])?,
+            b"\x0a\x11\x0a\x01k\x12\x0c\x32\x03\x0a\x01b\x18\x01\x32\x03\x0a\x01a"
         )?
     );
     Ok(())
