@@ -4,4 +4,5 @@ mod Latest
 pub mod Maps
 pub mod Rising
 mod Search
+pub mod Sets
 pub mod Texts

@@ -1,5 +1,5 @@
 -- A set of texts: texts that rise strictly, byte by byte.
-use Rattle.std.specs.Prelude.{ℕ, List, Bool}
+use Rattle.std.specs.Prelude.{ℕ, List, [], ◌∷◌, Bool}
 use Rattle.std.specs.Str.{IsUtf8}
 use Rattle.prefs_model.specs.Rising.{IsSortedList, has_key, with_item, without_key}
 
@@ -20,3 +20,8 @@ with_text texts text = with_item itself texts text
 -- the set without this text
 abbrev pub without_text : List (List ℕ) → List ℕ → List (List ℕ)
 without_text texts text = without_key itself texts text
+
+-- the set of texts that come in any order
+abbrev pub set_of : List (List ℕ) → List (List ℕ)
+set_of [] = []
+set_of (first ∷ others) = with_text (set_of others) first

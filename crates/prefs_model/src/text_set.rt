@@ -1,5 +1,5 @@
 ghost use Rattle.std.specs.Prelude.{◌≡◌, ◌↔◌, ℕ, List, [], IsTrue, not, IfOk, OnOk, OnErr, IsOk};
-ghost use Rattle.prefs_model.specs.Texts.{IsTextSet, has_text, with_text, without_text};
+ghost use Rattle.prefs_model.specs.Texts.{IsTextSet, has_text, set_of, with_text, without_text};
 
 use crate::sorted_vec::SortedVec;
 use crate::{Entries, PrefText};
@@ -32,9 +32,11 @@ impl TextSet {
 
     /// The set of the entries, in time n log n for n entries.
     pub fn from_entries(entries: Entries<PrefText>) -> Result<TextSet, AllocError>
-        ensures { IfOk result (λ set. (text : List ℕ) → has_text set text ≡ has_text entries text) }
+        ensures { IfOk result (λ set. set ≡ set_of entries) }
     {
         let texts = SortedVec::from_entries(entries)?;
+        // Its texts rise.
+        let _ = texts.as_slice();
         Ok(TextSet { texts })
     }
 

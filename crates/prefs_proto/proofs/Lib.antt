@@ -6,7 +6,6 @@ pub mod Layouts
 pub mod Loops
 pub mod Places
 pub mod Rows
-pub mod Sets
 pub mod Steps
 pub mod Varints
 pub mod Walk

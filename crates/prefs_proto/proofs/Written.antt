@@ -33,14 +33,15 @@ use Rattle.prefs_proto.specs.FieldText.{field}
 use Rattle.prefs_proto.specs.ValueText.{set_text, value_text}
 use Rattle.prefs_proto.specs.Message.{Gathers, Message}
 use Rattle.prefs_proto.specs.Layout.{TextSeen, SetGives, IsStringSet, MemberSeen, scalar, text, texts, ValueGives, IsValueMessage, PartSeen, key, member, EntryGives, IsEntryMessage, EntrySeen, MapGives}
-use Rattle.prefs_proto.specs.Entry.{bytes_of_text, set_of, value_back, last_key, members_of, key_of, value_of}
+use Rattle.prefs_model.specs.Texts.{set_of}
+use Rattle.prefs_proto.specs.Entry.{bytes_of_text, value_back, last_key, members_of, key_of, value_of}
 use Rattle.prefs_proto.specs.Reads.{least, bad_text, texts_of_member, texts_of_part, texts_of_entry, long_key, Reads}
 use Rattle.prefs_proto.specs.Found.{one_text, bad_member, bad_part, bad_entry, entry_said}
 use Rattle.prefs_proto.specs.Encoded.{entry_text, pair_text, encoded}
 use Rattle.prefs_proto.proofs.Places.{bad_text-append, bad_among-one, texts_of_members}
 use Rattle.prefs_proto.proofs.Decodes.{said_last}
 use Rattle.prefs_proto.proofs.Fields.{length-field}
-use Rattle.prefs_proto.proofs.Sets.{is_set_of}
+use Rattle.prefs_model.proofs.Sets.{is_set_of}
 use Rattle.prefs_proto.proofs.Steps.{good_text}
 use Rattle.prefs_proto.proofs.Varints.{high_below}
 

@@ -1,6 +1,6 @@
 -- What an entry says: its key and its value.
 use Rattle.std.specs.Prelude.{ℕ, List, [], ◌∷◌, ◌++◌, map, reverse, Option, None, Some}
-use Rattle.prefs_model.specs.Texts.{with_text}
+use Rattle.prefs_model.specs.Texts.{set_of}
 use Rattle.prefs_model.specs.declared.pref_value.PrefValue.{PrefValue}
 use Rattle.prefs_model.specs.declared.pref_value.PrefValue.TheVariants.{Text, Texts}
 use Rattle.prefs_proto.specs.Layout.{TextSeen, MemberSeen, scalar, text, texts, PartSeen, key, member, EntrySeen}
@@ -19,11 +19,6 @@ members_of (member m ∷ parts) = m ∷ members_of parts
 
 abbrev pub bytes_of_text : TextSeen → List ℕ
 bytes_of_text t = t.bytes
-
--- the set of these texts
-abbrev pub set_of : List (List ℕ) → List (List ℕ)
-set_of [] = []
-set_of (first ∷ others) = with_text (set_of others) first
 
 -- of members, the last first: the texts of the string sets before the first other member
 abbrev pub run_of : List MemberSeen → List (List ℕ)

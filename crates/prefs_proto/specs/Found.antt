@@ -18,7 +18,8 @@ use Rattle.prefs_proto.specs.declared.read_entry.EntryFound.{EntryFound}
 use Rattle.prefs_proto.specs.declared.read_map.MapFound.{MapFound}
 use Rattle.wire_codec.specs.Fields.{FieldSeen}
 use Rattle.prefs_proto.specs.Layout.{TextSeen, SetGives, IsStringSet, StringSetFault, MemberSeen, scalar, text, texts, ValueGives, IsValueMessage, ValueFaulty, ValueFault, PartSeen, EntryGives, IsEntryMessage, EntryFaulty, EntryFault, EntrySeen, MapGives, HasEntries, MapFaulty, FileFault}
-use Rattle.prefs_proto.specs.Entry.{bytes_of_text, set_of, run_of, last_key, members_of, key_of, value_of}
+use Rattle.prefs_model.specs.Texts.{set_of}
+use Rattle.prefs_proto.specs.Entry.{bytes_of_text, run_of, last_key, members_of, key_of, value_of}
 use Rattle.prefs_proto.specs.Reads.{texts_of_member, texts_of_part, texts_of_entry, bad_text, long_key}
 
 -- ---- a text

@@ -1,4 +1,4 @@
-ghost use Rattle.std.specs.Prelude.{◌≡◌, ◌↔◌, ◌-◌, ◌^◌, ℕ, List, min, length, IfOk, IsTrue};
+ghost use Rattle.std.specs.Prelude.{◌≡◌, ◌<◌, ◌↔◌, ◌-◌, ◌^◌, ℕ, List, min, length, IfOk, IsTrue};
 ghost use Rattle.store_traits.specs.Decoded.{MatchDecoded};
 
 use crate::{Decoded, FileBytes};
@@ -47,8 +47,8 @@ pub trait Codec: Drop {
     fn copy(&self, alloc: Global, value: &Self::Value) -> Result<Self::Value, AllocError>
         ensures { IfOk result (λ v. v ≡ value.now) };
 
-    /// What a value is written as reads as that value.
-    ghost read_back: { (codec : Self) (v : Self.Value) → is_value codec v → reads codec (encoded codec v) v };
+    /// What a value is written as reads as that value. Bytes that there is memory for are fewer than 2^64.
+    ghost read_back: { (codec : Self) (v : Self.Value) → is_value codec v → length (encoded codec v) < 2 ^ 64 → reads codec (encoded codec v) v };
 
     /// Bytes read as one value at most.
     ghost read_once: { (codec : Self) (bytes : List ℕ) (v w : Self.Value) → reads codec bytes v → reads codec bytes w → v ≡ w };

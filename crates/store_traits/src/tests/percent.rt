@@ -52,7 +52,7 @@ impl Codec for OneByte {
 
     ghost default_of = { λ _. 0 };
 
-    ghost read_back = { λ _ p known. (refl, known) };
+    ghost read_back = { λ _ p known short. (refl, known) };
 
     ghost read_once = { λ _ bytes p q first second. ap (λ (read : List ℕ). slice_index read 0) (sym first.0 ∙ second.0) };
 

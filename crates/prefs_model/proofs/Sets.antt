@@ -1,12 +1,11 @@
 -- The set of texts that came in any order.
-use Rattle.std.proofs.Common.{◌≡◌, ◌≢◌, ℕ, List, [], ◌∷◌, Bool, true, false, Option, Some, is_some, refl, sym, ap, ◌∙◌, subst, if◌then◌else◌}
+use Rattle.std.proofs.Common.{◌≡◌, ◌≢◌, ℕ, List, [], ◌∷◌, Bool, true, false, Some, is_some, refl, sym, ap, ◌∙◌, subst, if◌then◌else◌}
 use Rattle.std.specs.Ordering.{is_eq}
-use Rattle.prefs_model.specs.Texts.{IsTextSet, itself, has_text, with_text}
+use Rattle.prefs_model.specs.Texts.{IsTextSet, itself, has_text, with_text, set_of}
 use Rattle.prefs_model.specs.Rising.{key_cmp, IsRising, value_under}
 use Rattle.prefs_model.proofs.Keys.{key_cmp_same, same_from_is_eq}
 use Rattle.prefs_model.proofs.Rising.{IsRising-with_item}
 use Rattle.prefs_model.proofs.Texts.{same_from_rising, has_text-with_text, has_text-with_other}
-use Rattle.prefs_proto.specs.Entry.{set_of}
 
 pub set_of_rises : (texts : List (List ℕ)) → IsRising itself (set_of texts)
 set_of_rises [] = tt
