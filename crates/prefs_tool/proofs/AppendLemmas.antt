@@ -4,7 +4,7 @@ use Rattle.std.proofs.lemmas.List.{take-append-drop, length-take, length-drop}
 use Rattle.folder_disk.specs.Contents.{Contents, Unsynced, ChangesScratch}
 use Rattle.folder_disk.specs.Room.{Room, Uses}
 use Rattle.scratch_rename.specs.Filling.{Filling, next_piece, filled_more}
-use Rattle.prefs_tool.specs.Outcome.{Untouched}
+use Rattle.prefs_tool.specs.Changing.{Untouched}
 
 -- the scratch file has what the plan says is written
 pub record Appending (plan : Filling) (old new : Contents) : Type 0 where

@@ -1,3 +1,3 @@
-pub mod CommandLemmas
 pub mod AppendLemmas
-pub mod SetLemmas
+pub mod ChangeLemmas
+pub mod ReadLemmas

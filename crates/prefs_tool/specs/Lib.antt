@@ -1,5 +1,4 @@
-pub mod Command
-pub mod Outcome
+pub mod Changing
 pub mod Reading
 pub mod Replacing
 pub mod Status

@@ -1,27 +1,48 @@
--- What reading main as a map answers.
-use Rattle.std.specs.Prelude.{ℕ, Bool, IsTrue, List, Option, Result, Ok, Err}
+-- What main reads as, and what reading it as a map answers.
+use Rattle.std.specs.Prelude.{ℕ, ◌≡◌, ◌<◌, ◌≤◌, Bool, IsTrue, List, [], length, Option, Some, None, Result, Ok, Err}
 use Rattle.prefs_model.specs.declared.pref_pair.PrefPair.{PrefPair}
 use Rattle.prefs_proto.specs.Reads.{Reads}
 use Rattle.folder_disk.specs.declared.call.FolderCall.TheVariants.{ReadMain}
 use Rattle.folder_disk.specs.Due.{fails}
 use Rattle.folder_disk.specs.Tally.{Tally}
 use Rattle.store_traits.specs.Faults.{Rose}
-use Rattle.prefs_tool.specs.Outcome.{ReadsAs, IsUnreadable}
 use Rattle.prefs_tool.specs.declared.tool_error.ToolError.{ToolError}
-use Rattle.prefs_tool.specs.declared.tool_error.ToolError.TheVariants.{Storage, Corrupt, Refused, NoMemory}
+use Rattle.prefs_tool.specs.declared.tool_error.ToolError.TheVariants.{Storage, Corrupt, TooLong, NoMemory}
 
--- the map that the bytes read as; corrupt where they read as none
-abbrev pub ReadsText : List ℕ → Result (List PrefPair) ToolError → Type 0
-ReadsText bytes (Ok pairs) = Reads bytes pairs
-ReadsText bytes (Err Storage) = ⊥
-ReadsText bytes (Err Corrupt) = (pairs : List PrefPair) → Reads bytes pairs → ⊥
-ReadsText bytes (Err Refused) = ⊥
-ReadsText bytes (Err NoMemory) = Unit {0}
+-- the limit of a file, in bytes
+abbrev pub file_limit : ℕ
+file_limit = 1048576
 
--- the map that main reads as; corrupt where it reads as none; and a fault where the read failed
+-- main reads as this map: an absent one as the empty map, and one within the limit as its bytes do
+abbrev pub ReadsAs : Option (List ℕ) → List PrefPair → Type 0
+ReadsAs None pairs = pairs ≡ []
+ReadsAs (Some bytes) pairs = (length bytes ≤ file_limit) × Reads bytes pairs
+
+-- main is within the limit and reads as no map
+abbrev pub IsCorrupt : Option (List ℕ) → Type 0
+IsCorrupt None = ⊥
+IsCorrupt (Some bytes) = (length bytes ≤ file_limit) × ((pairs : List PrefPair) → Reads bytes pairs → ⊥)
+
+-- main has this many bytes, which is past the limit
+abbrev pub IsTooLong : Option (List ℕ) → ℕ → Type 0
+IsTooLong None len = ⊥
+IsTooLong (Some bytes) len = (length bytes ≡ len) × (file_limit < len)
+
+-- why no map was read: a fault of the read, which was due, or what main is
+abbrev pub StopsReading : Bool → Option (List ℕ) → Tally → Tally → ToolError → Type 0
+StopsReading told main before now Storage = Rose before.count now.count × (IsTrue told → IsTrue (fails ReadMain before.due))
+StopsReading told main before now Corrupt = IsTrue told → IsCorrupt main
+StopsReading told main before now (TooLong len) = IsTrue told → IsTooLong main len
+StopsReading told main before now NoMemory = Unit {0}
+StopsReading told main before now _ = ⊥
+
 abbrev pub ReadsMap : Bool → Option (List ℕ) → Tally → Tally → Result (List PrefPair) ToolError → Type 0
 ReadsMap told main before now (Ok pairs) = IsTrue told → ReadsAs main pairs
-ReadsMap told main before now (Err Storage) = Rose before.count now.count × (IsTrue told → IsTrue (fails ReadMain before.due))
-ReadsMap told main before now (Err Corrupt) = IsTrue told → IsUnreadable main
-ReadsMap told main before now (Err Refused) = ⊥
-ReadsMap told main before now (Err NoMemory) = Unit {0}
+ReadsMap told main before now (Err e) = StopsReading told main before now e
+
+-- the same of the bytes of main
+abbrev pub ReadsText : List ℕ → Result (List PrefPair) ToolError → Type 0
+ReadsText bytes (Ok pairs) = Reads bytes pairs
+ReadsText bytes (Err Corrupt) = (pairs : List PrefPair) → Reads bytes pairs → ⊥
+ReadsText bytes (Err NoMemory) = Unit {0}
+ReadsText bytes (Err _) = ⊥

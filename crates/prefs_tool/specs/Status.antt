@@ -1,7 +1,7 @@
--- How a command ended, as a number and as the answer of its parts.
-use Rattle.std.specs.Prelude.{ℕ, Result, Ok, Err}
+-- How a command ended, as a number, and the line that tells why it stopped.
+use Rattle.std.specs.Prelude.{ℕ, List, [], ◌∷◌, ◌++◌, codes, decimal, Result, Ok, Err}
 use Rattle.prefs_tool.specs.declared.status.Status.{Status}
-use Rattle.prefs_tool.specs.declared.status.Status.TheVariants.{Done, Words, Storage, Corrupt, Refused, NoMemory}
+use Rattle.prefs_tool.specs.declared.status.Status.TheVariants.{Done, Words, Storage, Corrupt, Refused, WriteFault, NoMemory, NoKey}
 use Rattle.prefs_tool.specs.declared.tool_error.ToolError.{ToolError}
 use Rattle.prefs_tool.specs.declared.tool_error.ToolError.TheVariants as error
 
@@ -12,15 +12,36 @@ code_of Words = 1
 code_of Storage = 3
 code_of Corrupt = 4
 code_of Refused = 5
+code_of WriteFault = 7
 code_of NoMemory = 8
+code_of NoKey = 9
 
 abbrev pub status_of : ToolError → Status
+status_of error.Words = Words
 status_of error.Storage = Storage
 status_of error.Corrupt = Corrupt
-status_of error.Refused = Refused
+status_of (error.TooLong len) = Corrupt
+status_of error.EditTooLong = Refused
+status_of (error.ValueTooLong len) = Refused
+status_of error.WriteFault = WriteFault
 status_of error.NoMemory = NoMemory
+status_of error.NoKey = NoKey
 
--- the status that the answer of a command's body gives
 abbrev pub status_after : {T : Type 0} → Result T ToolError → Status
 status_after (Ok done) = Done
 status_after (Err e) = status_of e
+
+abbrev pub line : List ℕ → List ℕ
+line text = text ++ 10 ∷ []
+
+-- the line that the error is told by; the last two are told by the status alone
+abbrev pub line_of : ToolError → List ℕ
+line_of error.Words = line (codes "error: words")
+line_of error.Storage = line (codes "error: storage")
+line_of error.Corrupt = line (codes "error: corrupt")
+line_of (error.TooLong len) = line (codes "error: too long " ++ decimal len)
+line_of error.EditTooLong = line (codes "error: refused 4")
+line_of (error.ValueTooLong len) = line (codes "error: value too long " ++ decimal len)
+line_of error.NoKey = line (codes "error: no key")
+line_of error.WriteFault = []
+line_of error.NoMemory = []

@@ -2,7 +2,7 @@ ghost use Rattle.std.specs.Prelude.{◌≡◌, ◌≤◌, ◌++◌, IsTrue, IfOk
 ghost use Rattle.folder_disk.specs.Contents.{Unsynced};
 ghost use Rattle.prefs_tool.specs.declared.tool_error.ToolError.TheVariants.{Storage};
 ghost use Rattle.store_traits.specs.Faults.{Counts};
-ghost use Rattle.prefs_tool.specs.Outcome.{Untouched};
+ghost use Rattle.prefs_tool.specs.Changing.{Untouched};
 
 use crate::tool_error::ToolError;
 use folder_disk::Folder;

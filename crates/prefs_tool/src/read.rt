@@ -21,7 +21,7 @@ pub(crate) fn read_map<F: Folder>(alloc: Global, folder: &mut F) -> Result<PrefM
         Ok(MainRead::Absent) => Ok(PrefMap::new(alloc)),
         Ok(MainRead::Bytes(bytes)) => map_of(alloc, bytes.as_slice()),
         Err(ReadMainError::Failed) => Err(ToolError::Storage),
-        Err(ReadMainError::TooLong { .. }) => Err(ToolError::Corrupt),
+        Err(ReadMainError::TooLong { len }) => Err(ToolError::TooLong { len }),
         Err(ReadMainError::NoMemory) => Err(ToolError::NoMemory),
     }
 }

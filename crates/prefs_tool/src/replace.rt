@@ -3,7 +3,7 @@ ghost use Rattle.folder_disk.specs.Contents as model;
 ghost use Rattle.folder_disk.specs.Room.{HasRoomFor};
 ghost use Rattle.prefs_tool.specs.declared.tool_error.ToolError.TheVariants.{Storage};
 ghost use Rattle.store_traits.specs.Faults.{Counts};
-ghost use Rattle.prefs_tool.specs.Outcome.{Untouched};
+ghost use Rattle.prefs_tool.specs.Changing.{Untouched};
 ghost use Rattle.prefs_tool.specs.Replacing.{ReplacesMain};
 
 use crate::append::append_rest;
@@ -19,7 +19,7 @@ pub(crate) fn replace_main<F: Folder>(
     folder: &mut F,
     text: FileBytes,
 ) -> Result<(), ToolError>
-    ensures outcome { ReplacesMain F.told text (F.contents folder.old) (F.tally folder.old) (F.contents folder.new) (F.tally folder.new) result }
+    ensures outcome { ReplacesMain F.told text (F.contents folder.old) (F.tally folder.old) result (F.contents folder.new) (F.tally folder.new) }
 {
     folder.make_room(alloc, text.as_slice().len() as u64)?;
     // The bytes are on the disk before the name is, so that a machine stop leaves main whole.

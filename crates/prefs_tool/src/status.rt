@@ -12,14 +12,18 @@ pub enum Status {
     Storage,
     /// Main reads as no map, or is longer than a file may be.
     Corrupt,
-    /// The new text would be longer than a file may be.
+    /// The edit is too long, or the new text would be longer than a file may be.
     Refused,
+    /// The sink failed.
+    WriteFault,
     /// There was not enough memory.
     NoMemory,
+    /// The key that was asked for is not there.
+    NoKey,
 }
 
 impl Status {
-    /// The exit status of the program, from 0 to 8.
+    /// The exit status of the program, from 0 to 9.
     pub fn code(self) -> u8
         ensures { result ≡ code_of self }
     {
@@ -29,7 +33,9 @@ impl Status {
             Status::Storage => 3,
             Status::Corrupt => 4,
             Status::Refused => 5,
+            Status::WriteFault => 7,
             Status::NoMemory => 8,
+            Status::NoKey => 9,
         }
     }
 }

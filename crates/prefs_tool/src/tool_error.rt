@@ -4,16 +4,28 @@ ghost use Rattle.prefs_tool.specs.Status.{status_of};
 
 use crate::Status;
 use scratch_rename::{Filled, Fresh, Renamed, Synced};
-use std::alloc::AllocError;
+use std::alloc::{AllocError, AllocFailed};
 use store_traits::Failed;
 
 /// Why a command did not go well.
 #[derive(Clone, Copy, Debug, PartialEq, Eq)]
 pub(crate) enum ToolError {
+    Words,
     Storage,
     Corrupt,
-    Refused,
+    /// Main has `len` bytes.
+    TooLong {
+        len: u64,
+    },
+    /// The edit weighs too much.
+    EditTooLong,
+    /// The new text would have `len` bytes.
+    ValueTooLong {
+        len: u64,
+    },
+    WriteFault,
     NoMemory,
+    NoKey,
 }
 
 impl ToolError {
@@ -21,10 +33,13 @@ impl ToolError {
         ensures { result ≡ status_of self }
     {
         match self {
+            ToolError::Words => Status::Words,
             ToolError::Storage => Status::Storage,
-            ToolError::Corrupt => Status::Corrupt,
-            ToolError::Refused => Status::Refused,
+            ToolError::Corrupt | ToolError::TooLong { .. } => Status::Corrupt,
+            ToolError::EditTooLong | ToolError::ValueTooLong { .. } => Status::Refused,
+            ToolError::WriteFault => Status::WriteFault,
             ToolError::NoMemory => Status::NoMemory,
+            ToolError::NoKey => Status::NoKey,
         }
     }
 }
@@ -74,6 +89,14 @@ impl From<AllocError> for ToolError {
     ghost from_gives = { λ _ e. e ≡ NoMemory };
 
     fn from(_: AllocError) -> ToolError {
+        ToolError::NoMemory
+    }
+}
+
+impl<T: Drop> From<AllocFailed<T>> for ToolError {
+    ghost from_gives = { λ _ e. e ≡ NoMemory };
+
+    fn from(_: AllocFailed<T>) -> ToolError {
         ToolError::NoMemory
     }
 }

@@ -1,4 +1,4 @@
-use Rattle.prefs_tool.proofs.SetLemmas.{reads_bytes}
+use Rattle.prefs_tool.proofs.ReadLemmas.{reads_bytes}
 use Rattle.prefs_tool.proofs.read.read_map.Goals as goal
 
 pub returns-in-Ok-Bytes-clause-read : goal.returns-in-Ok-Bytes-clause-read
