@@ -100,7 +100,11 @@ fn decode_lower(word: &str, bytes: &mut [u8], digits: &mut [u8]) -> bool
     ensures yes { OnTrue result (word.now ≡ encode_lower bytes.new) }
     ensures no { OnFalse result ((other : List ℕ) → length other ≡ length bytes.old → IsBytes other → word.now ≢ encode_lower other) }
 {
-    hex::decode_to_slice(word, bytes).is_ok()
-        && hex::encode_to_slice(&*bytes, digits).is_ok()
-        && &*digits == word.as_bytes()
+    let Ok(()) = hex::decode_to_slice(word, bytes) else {
+        return false;
+    };
+    let Ok(()) = hex::encode_to_slice(&*bytes, digits) else {
+        return false;
+    };
+    &*digits == word.as_bytes()
 }
