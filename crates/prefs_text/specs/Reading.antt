@@ -1,5 +1,5 @@
 -- Which value a text is, and why others are none.
-use Rattle.std.specs.Prelude.{ℕ, ◌≡◌, ◌≢◌, ◌==◌, ◌⊎◌, List, ◌++◌, codes, map, All, Some}
+use Rattle.std.specs.Prelude.{ℕ, ◌≡◌, ◌==◌, ◌⊎◌, List, ◌++◌, codes, map, All, Some}
 use Rattle.std.specs.List.{before_first}
 use Rattle.serde_json.specs.Data.{string, array}
 use Rattle.serde_json.specs.Read.{read}
@@ -7,7 +7,6 @@ use Rattle.serde_json.specs.View.{items_of}
 use Rattle.prefs_model.specs.declared.pref_value.PrefValue.{PrefValue}
 use Rattle.prefs_model.specs.declared.pref_value.PrefValue.TheVariants.{Text, Texts}
 use Rattle.prefs_model.specs.Texts.{set_of}
-use Rattle.prefs_model.specs.Value.{IsValue}
 use Rattle.prefs_text.specs.declared.value_kind.ValueKind.{ValueKind}
 use Rattle.prefs_text.specs.declared.value_kind.ValueKind.TheVariants as kind
 use Rattle.prefs_text.specs.declared.value_text_error.ValueTextError.{ValueTextError}

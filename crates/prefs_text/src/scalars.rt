@@ -97,6 +97,7 @@ fn double_of(word: &str) -> Option<u64>
 // digits too. `digits` is room for what is printed.
 fn decode_lower(word: &str, bytes: &mut [u8], digits: &mut [u8]) -> bool
     requires { length digits.old ≡ 2 * length bytes.old }
+    ensures bytes { IsBytes bytes.new }
     ensures yes { OnTrue result (word.now ≡ encode_lower bytes.new) }
     ensures no { OnFalse result ((other : List ℕ) → length other ≡ length bytes.old → IsBytes other → word.now ≢ encode_lower other) }
 {
