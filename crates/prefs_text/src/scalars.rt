@@ -37,23 +37,16 @@ fn truth_of(word: &str) -> Option<bool>
     }
 }
 
-// Parsing accepts more than is printed, as `+1`, `01` or `-0`.
 fn int_of(word: &str) -> Option<i32>
     ensures some { IfSome result (λ z. word.now ≡ signed_decimal z) }
     ensures none { IfNone result ((z : ℤ) → FitsSigned w32 z → word.now ≢ signed_decimal z) }
 {
-    let Ok(number) = word.parse::<i32>() else {
-        return None;
-    };
-    if Buffer::new().format(number) == word {
-        Some(number)
-    } else {
-        None
-    }
+    i32::try_from(long_of(word)?).ok()
 }
 
 // Parsing accepts more than is printed, as `+1`, `01` or `-0`.
 fn long_of(word: &str) -> Option<i64>
+    ensures fits { IfSome result (FitsSigned w64) }
     ensures some { IfSome result (λ z. word.now ≡ signed_decimal z) }
     ensures none { IfNone result ((z : ℤ) → FitsSigned w64 z → word.now ≢ signed_decimal z) }
 {

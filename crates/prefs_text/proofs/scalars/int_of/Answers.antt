@@ -1,16 +1,11 @@
-use Rattle.std.proofs.Common.{◌≡◌, Ok, true, arith}
-use Rattle.std.specs.Int.{w32}
-use Rattle.std.specs.Str.{bytes_eq}
-use Rattle.std.proofs.lemmas.Fmt.{parse-signed_decimal}
-use Rattle.prefs_text.proofs.Decimals.{prints_itself}
+-- The word is the text of one number alone, and `try_from` refuses it where it does not fit.
+use Rattle.std.specs.Int.{w64}
+use Rattle.std.proofs.lemmas.Int.{to_z-of_z}
+use Rattle.prefs_text.proofs.Decimals.{refused_by_range}
 use Rattle.prefs_text.proofs.scalars.int_of.Goals as goal
 
-pub returns-in_default-clause-none : goal.returns-in_default-clause-none
-returns-in_default-clause-none c z fits e =
-    c.in_default.not-Ok z (parse-signed_decimal w32 z _ _ fits (omega (arith, fits.sfits)) e c.parse.ensures.value.0)
-
-pub returns-else-eq-clause-none : goal.returns-else-eq-clause-none
-returns-else-eq-clause-none c z fits e =
-    let parsed : c.parse.result ≡ Ok z = parse-signed_decimal w32 z _ _ fits (omega (arith, fits.sfits)) e c.parse.ensures.value.0 in
-    let same : bytes_eq c.format.result.now c.args.word.now ≡ true = prints_itself w32 c.parse.result c.in-Ok.number z _ _ fits c.in-Ok.is parsed c.format.ensures.text e in
-    cc (same, c.eq.ensures)
+pub returns-clause-none : goal.returns-clause-none
+returns-clause-none c =
+    let number = c.in_ok-long_of.field-0 in
+    let range = rw (to_z-of_z w64 number c.in_ok-long_of.ensures.fits) at c.try_from.ensures in
+    rw c.ok.ensures.value (refused_by_range c.try_from.result number c.args.word.now c.in_ok-long_of.ensures.fits c.in_ok-long_of.ensures.some range)
