@@ -1,0 +1,5 @@
+pub mod MapText
+pub mod PlainWord
+pub mod Reading
+pub mod ValueKind
+pub mod ValueText

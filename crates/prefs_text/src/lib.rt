@@ -1,0 +1,18 @@
+//! Exact texts of values and maps, and which value a text is. It stands on `prefs_model` and on `serde_json` for
+//! quoted texts. The one contract above it is the text of each value, `value_text`, and the values that texts are,
+//! `IsValueText`.
+#![tactic(auto)]
+
+mod lists;
+mod maps;
+mod quoted;
+mod scalars;
+mod value_kind;
+mod value_text_error;
+mod values;
+
+pub use maps::{map_text, push_pair};
+pub use scalars::plain_value;
+pub use value_kind::ValueKind;
+pub use value_text_error::ValueTextError;
+pub use values::{push_value, value_text};
