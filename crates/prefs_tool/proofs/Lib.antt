@@ -1,3 +1,12 @@
 pub mod AppendLemmas
 pub mod ChangeLemmas
+pub mod CommandLemmas
+pub mod DashLemmas
+pub mod EndLemmas
+pub mod LineLemmas
+pub mod PlainWordLemmas
 pub mod ReadLemmas
+pub mod ShowLemmas
+pub mod ToolLemmas
+pub mod WalkLemmas
+pub mod WriteLemmas

@@ -45,3 +45,8 @@ line_of (error.ValueTooLong len) = line (codes "error: value too long " ++ decim
 line_of error.NoKey = line (codes "error: no key")
 line_of error.WriteFault = []
 line_of error.NoMemory = []
+
+-- what there is to write of an answer of which nothing is printed
+abbrev pub text_after : {T : Type 0} → Result T ToolError → List ℕ
+text_after (Ok done) = []
+text_after (Err e) = line_of e

@@ -6,9 +6,16 @@
 
 mod append;
 mod change;
+mod command;
+mod get;
 mod read;
 mod replace;
+mod show;
 mod status;
+mod tool;
 mod tool_error;
+mod words;
+mod write;
 
 pub use status::Status;
+pub use tool::run_tool;

@@ -1,0 +1,129 @@
+-- From the body of a command to its status and what was told.
+use Rattle.std.proofs.Common.{◌≡◌, ◌≢◌, ◌∙◌, ◌≤◌, ◌++◌, inl, inr, ◌⊎◌, ℕ, Bool, IsTrue, Result, Ok, Err, List, [], refl, sym, ap, subst, append_assoc, append-nil, arith}
+use Rattle.folder_disk.specs.Contents.{Contents}
+use Rattle.folder_disk.specs.Tally.{Tally}
+use Rattle.store_traits.specs.Faults.{Rose}
+use Rattle.store_traits.proofs.FaultLemmas.{rose_since}
+use Rattle.prefs_tool.specs.Status.{line_of, status_of, status_after}
+use Rattle.prefs_tool.specs.Writing.{GainsFront}
+use Rattle.prefs_tool.specs.Outcome.{Answers, Outcome, Reports}
+use Rattle.prefs_tool.specs.Ending.{Ends, Gains}
+use Rattle.prefs_tool.specs.declared.command.Command.{Command}
+use Rattle.prefs_tool.specs.declared.command.Command.TheVariants.{Set, Get, Remove, Show}
+use Rattle.prefs_tool.specs.declared.status.Status.{Status}
+use Rattle.prefs_tool.specs.declared.status.Status.TheVariants as status
+use Rattle.prefs_tool.specs.declared.tool_error.ToolError.{ToolError}
+use Rattle.prefs_tool.specs.declared.tool_error.ToolError.TheVariants.{Words, Storage, Corrupt, TooLong, EditTooLong, ValueTooLong, WriteFault, NoMemory, NoKey}
+use Rattle.prefs_tool.proofs.ChangeLemmas.{untouched}
+use Rattle.prefs_tool.proofs.WriteLemmas.{front_of_first, front_of_second}
+
+-- ---- want of memory before anything was done
+
+pub no_memory : (told : Bool) (command : Command) (old : Contents) (tally : Tally) → Answers told command old tally (Err NoMemory) [] old tally
+no_memory told (Set key value) old tally = (λ is_told. untouched old old refl, refl)
+no_memory told (Get key) old tally = (λ is_told. inl refl, λ is_told. untouched old old refl)
+no_memory told (Remove key) old tally = (λ is_told. untouched old old refl, refl)
+no_memory told Show old tally = (λ is_told. inl refl, λ is_told. untouched old old refl)
+
+-- ---- no answer of a command is that the words are none, or that a write failed
+
+no_words : (told : Bool) (command : Command) (old new : Contents) (before now : Tally) (text : List ℕ) → Answers told command old before (Err Words) text new now → ⊥
+no_words told (Set key value) old new before now text answers = answers.0
+no_words told (Get key) old new before now text answers = answers.0.1
+no_words told (Remove key) old new before now text answers = answers.0
+no_words told Show old new before now text answers = answers.0.1
+
+-- an error that ends as refused words is that one
+is_words : (e : ToolError) → status_of e ≡ status.Words → e ≡ Words
+is_words Words is = refl
+is_words Storage is = absurd cc
+is_words Corrupt is = absurd cc
+is_words (TooLong len) is = absurd cc
+is_words EditTooLong is = absurd cc
+is_words (ValueTooLong len) is = absurd cc
+is_words WriteFault is = absurd cc
+is_words NoMemory is = absurd cc
+is_words NoKey is = absurd cc
+
+not_words_after : (told : Bool) (command : Command) (old new : Contents) (before now : Tally) (text : List ℕ) (answer : Result (Unit {0}) ToolError)
+    → Answers told command old before answer text new now → status_after answer ≡ status.Words → ⊥
+not_words_after told command old new before now text (Ok done) answers is = absurd cc
+not_words_after told command old new before now text (Err e) answers is =
+    no_words told command old new before now text (subst (λ (x : ToolError). Answers told command old before (Err x) text new now) (is_words e is) answers)
+
+not_words_told : (sink_told : Bool) (answer : Result (Unit {0}) ToolError) (text : List ℕ) (s : Status) (held : List ℕ) (faults : ℕ) (gained : List ℕ) (faults_now : ℕ)
+    → Reports sink_told answer text s held faults gained faults_now → s ≡ status.Words → status_after answer ≡ status.Words
+not_words_told sink_told answer text s held faults gained faults_now (inl all) is = sym all.0 ∙ is
+not_words_told sink_told answer text s held faults gained faults_now (inr failed) is = absurd (let bad : status.WriteFault ≡ status.Words = sym failed.0 ∙ is in cc)
+
+-- the status of a command is never that its words are none
+pub not_words : (told sink_told : Bool) (command : Command) (old new : Contents) (before now : Tally) (held : List ℕ) (faults : ℕ) (s : Status) (gained : List ℕ) (faults_now : ℕ)
+    → Outcome told sink_told command old before held faults s new now gained faults_now → s ≡ status.Words → ⊥
+not_words told sink_told command old new before now held faults s gained faults_now outcome is =
+    not_words_after told command old new before now outcome.text outcome.answer outcome.answers
+    (not_words_told sink_told outcome.answer outcome.text s held faults gained faults_now outcome.reports is)
+
+-- ---- the outcome of a body that went well
+
+pub well_done : (told sink_told : Bool) (command : Command) (old new : Contents) (before now : Tally) (held : List ℕ) (faults : ℕ) (gained : List ℕ) (faults_now : ℕ)
+    → Ends {T = Unit {0}} told sink_told command old before held faults (Ok tt) new now gained faults_now
+    → Outcome told sink_told command old before held faults status.Done new now gained faults_now
+well_done told sink_told command old new before now held faults gained faults_now ends =
+    record { answer = Ok tt; text = ends.0; answers = ends.1; reports = inl (refl, ends.2.text_is) }
+
+-- ---- the outcome of one that did not, once its line is written
+
+-- what is told behind a text that the sink has
+told_behind : (sink_told : Bool) (e : ToolError) (text more held middle gained : List ℕ) (faults since faults_now : ℕ) (s : Status)
+    → Gains sink_told text held faults middle since → Reports sink_told (Err e) more s middle since gained faults_now
+    → Reports sink_told (Err e) (text ++ more) s held faults gained faults_now
+told_behind sink_told e text more held middle gained faults since faults_now s so_far (inl all) =
+    inl (all.0, λ is_told. all.1 is_told ∙ ap (λ (m : List ℕ). m ++ more) (so_far.text_is is_told) ∙ append_assoc held text more)
+told_behind sink_told e text more held middle gained faults since faults_now s so_far (inr failed) =
+    inr (failed.0, rose_since faults since faults_now so_far.later failed.1, λ is_told. front_of_second text more held middle gained (so_far.text_is is_told) (failed.2 is_told))
+
+-- the answer and its line, of which nothing was written before
+line_told : (told sink_told : Bool) (command : Command) (old new : Contents) (before now : Tally) (e : ToolError) (text : List ℕ) (held middle gained : List ℕ) (faults since faults_now : ℕ) (s : Status)
+    → Answers told command old before (Err e) text new now → Gains sink_told [] held faults middle since → Reports sink_told (Err e) text s middle since gained faults_now
+    → Outcome told sink_told command old before held faults s new now gained faults_now
+line_told told sink_told command old new before now e text held middle gained faults since faults_now s answers so_far reports =
+    record { answer = Err e; text = text; answers = answers; reports = told_behind sink_told e [] text held middle gained faults since faults_now s so_far reports }
+
+-- what was told before memory was wanting
+memory_told : (told sink_told : Bool) (command : Command) (old new : Contents) (before now : Tally) (held middle gained : List ℕ) (faults since faults_now : ℕ) (s : Status)
+    → Ends {T = Unit {0}} told sink_told command old before held faults (Err NoMemory) new now middle since → Reports sink_told (Err NoMemory) [] s middle since gained faults_now
+    → Outcome told sink_told command old before held faults s new now gained faults_now
+memory_told told sink_told command old new before now held middle gained faults since faults_now s ends reports =
+    let both = told_behind sink_told NoMemory ends.0 [] held middle gained faults since faults_now s ends.2 reports in
+    record {
+      answer = Err NoMemory;
+      text = ends.0;
+      answers = ends.1;
+      reports = subst (λ (t : List ℕ). Reports sink_told (Err NoMemory) t s held faults gained faults_now) (append-nil ends.0) both;
+    }
+
+pub told_after : (told sink_told : Bool) (command : Command) (old new : Contents) (before now : Tally) (held middle gained : List ℕ) (faults since faults_now : ℕ) (s : Status) (e : ToolError)
+    → e ≢ WriteFault → Ends {T = Unit {0}} told sink_told command old before held faults (Err e) new now middle since → Reports sink_told (Err e) (line_of e) s middle since gained faults_now
+    → Outcome told sink_told command old before held faults s new now gained faults_now
+told_after told sink_told command old new before now held middle gained faults since faults_now s Words other ends reports = line_told told sink_told command old new before now Words _ held middle gained faults since faults_now s ends.0 ends.1 reports
+told_after told sink_told command old new before now held middle gained faults since faults_now s Storage other ends reports = line_told told sink_told command old new before now Storage _ held middle gained faults since faults_now s ends.0 ends.1 reports
+told_after told sink_told command old new before now held middle gained faults since faults_now s Corrupt other ends reports = line_told told sink_told command old new before now Corrupt _ held middle gained faults since faults_now s ends.0 ends.1 reports
+told_after told sink_told command old new before now held middle gained faults since faults_now s (TooLong len) other ends reports = line_told told sink_told command old new before now (TooLong len) _ held middle gained faults since faults_now s ends.0 ends.1 reports
+told_after told sink_told command old new before now held middle gained faults since faults_now s EditTooLong other ends reports = line_told told sink_told command old new before now EditTooLong _ held middle gained faults since faults_now s ends.0 ends.1 reports
+told_after told sink_told command old new before now held middle gained faults since faults_now s (ValueTooLong len) other ends reports = line_told told sink_told command old new before now (ValueTooLong len) _ held middle gained faults since faults_now s ends.0 ends.1 reports
+told_after told sink_told command old new before now held middle gained faults since faults_now s WriteFault other ends reports = absurd (other refl)
+told_after told sink_told command old new before now held middle gained faults since faults_now s NoMemory other ends reports = memory_told told sink_told command old new before now held middle gained faults since faults_now s ends reports
+told_after told sink_told command old new before now held middle gained faults since faults_now s NoKey other ends reports = line_told told sink_told command old new before now NoKey _ held middle gained faults since faults_now s ends.0 ends.1 reports
+
+-- a write of the body failed, and nothing more is written
+pub write_failed : (told sink_told : Bool) (command : Command) (old new : Contents) (before now : Tally) (held : List ℕ) (faults : ℕ) (gained : List ℕ) (faults_now : ℕ)
+    → Ends {T = Unit {0}} told sink_told command old before held faults (Err WriteFault) new now gained faults_now
+    → Outcome told sink_told command old before held faults status.WriteFault new now gained faults_now
+write_failed told sink_told command old new before now held faults gained faults_now ends =
+    record { answer = Ok tt; text = ends.0; answers = ends.1; reports = inr (refl, ends.2, ends.3) }
+
+-- memory was wanting before the command was known
+pub none_done : (told sink_told : Bool) (command : Command) (old : Contents) (tally : Tally) (held : List ℕ) (faults : ℕ)
+    → Outcome told sink_told command old tally held faults status.NoMemory old tally held faults
+none_done told sink_told command old tally held faults =
+    record { answer = Err NoMemory; text = []; answers = no_memory told command old tally; reports = inl (refl, λ is_told. sym (append-nil held)) }

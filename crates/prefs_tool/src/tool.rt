@@ -1,0 +1,80 @@
+ghost use Rattle.std.specs.Prelude.{◌≡◌, Err};
+ghost use Rattle.prefs_tool.specs.Command.{Asks, AsksNothing};
+ghost use Rattle.prefs_tool.specs.declared.command.Command.{Command};
+ghost use Rattle.prefs_tool.specs.Ending.{Ends};
+ghost use Rattle.prefs_tool.specs.Outcome.{Outcome, RefusesWords, Reports};
+ghost use Rattle.prefs_tool.specs.Status.{line_of};
+ghost use Rattle.prefs_tool.specs.Words.{texts};
+
+use crate::Status;
+use crate::change::change;
+use crate::command::Command;
+use crate::get::get;
+use crate::show::show;
+use crate::tool_error::ToolError;
+use crate::words::asked;
+use crate::write::write_line;
+use byte_io::{Sink, Source};
+use folder_disk::Folder;
+use prefs_edit::EditStep;
+use std::alloc::Global;
+
+/// Does what the words ask for: `set`, `remove`, `get` or `show` on the settings in the folder. What it prints goes
+/// to the sink, and so does the line that tells why it stopped. It reads nothing of the source, and always returns.
+pub fn run_tool<S: Source, K: Sink, F: Folder>(
+    alloc: Global,
+    words: &[String],
+    source: &mut S,
+    sink: &mut K,
+    folder: &mut F,
+) -> Status
+    // Words that are no command are refused, and touch nothing.
+    ensures words { result ≡ Status.Words → AsksNothing (texts words.now) }
+    ensures refused { AsksNothing (texts words.now)
+        → RefusesWords K.told result (K.held sink.old) (K.count sink.old) (K.held sink.new) (K.count sink.new) }
+    ensures folder { AsksNothing (texts words.now) → folder.new ≡ folder.old }
+    // What the words ask for is done, or the status says why not, what is told, and what the folder holds.
+    ensures outcome { (command : Command) → Asks (texts words.now) command
+        → Outcome F.told K.told command (F.contents folder.old) (F.tally folder.old) (K.held sink.old) (K.count sink.old)
+            result (F.contents folder.new) (F.tally folder.new) (K.held sink.new) (K.count sink.new) }
+    ensures source { source.new ≡ source.old }
+{
+    let _ = source;
+    let Ok(asked) = asked(alloc, words) else {
+        return Status::NoMemory;
+    };
+    let Some(command) = asked else {
+        return tell(sink, ToolError::Words);
+    };
+    match run_command(alloc, sink, folder, command) {
+        Ok(()) => Status::Done,
+        Err(ToolError::WriteFault) => Status::WriteFault,
+        Err(error) => tell(sink, error),
+    }
+}
+
+fn run_command<K: Sink, F: Folder>(
+    alloc: Global,
+    sink: &mut K,
+    folder: &mut F,
+    command: Command,
+) -> Result<(), ToolError>
+    ensures { Ends F.told K.told command (F.contents folder.old) (F.tally folder.old) (K.held sink.old) (K.count sink.old) result (F.contents folder.new) (F.tally folder.new) (K.held sink.new) (K.count sink.new) }
+{
+    match command {
+        Command::Set { key, value } => change(alloc, folder, EditStep::Set { key, value }),
+        Command::Get { key } => get(alloc, sink, folder, &key),
+        Command::Remove { key } => change(alloc, folder, EditStep::Remove { key }),
+        Command::Show => show(alloc, sink, folder),
+    }
+}
+
+/// Writes the line of the error, and gives the status: where a write fails, that stands over it.
+fn tell<K: Sink>(sink: &mut K, error: ToolError) -> Status
+    ensures { Reports K.told (Err error) (line_of error) result (K.held sink.old) (K.count sink.old) (K.held sink.new) (K.count sink.new) }
+{
+    match write_line(sink, error) {
+        Ok(()) => error.status(),
+        Err(_) => Status::WriteFault,
+    }
+}
