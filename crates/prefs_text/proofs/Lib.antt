@@ -1,2 +1,4 @@
 pub mod Decimals
 pub mod Hexadecimals
+pub mod Strings
+pub mod KindNames

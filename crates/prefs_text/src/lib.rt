@@ -3,15 +3,18 @@
 //! `IsValueText`.
 #![tactic(auto)]
 
+mod json_texts;
 mod lists;
 mod maps;
 mod quoted;
+mod read;
 mod scalars;
 mod value_kind;
 mod value_text_error;
 mod values;
 
 pub use maps::{map_text, push_pair};
+pub use read::parse_value;
 pub use scalars::plain_value;
 pub use value_kind::ValueKind;
 pub use value_text_error::ValueTextError;
