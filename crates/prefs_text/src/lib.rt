@@ -4,6 +4,7 @@
 #![tactic(auto)]
 
 mod json_texts;
+mod laws;
 mod lists;
 mod maps;
 mod quoted;
@@ -13,6 +14,7 @@ mod value_kind;
 mod value_text_error;
 mod values;
 
+pub use laws::{one_value, texts_read_back};
 pub use maps::{map_text, push_pair};
 pub use read::parse_value;
 pub use scalars::plain_value;
