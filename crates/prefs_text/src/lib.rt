@@ -10,6 +10,8 @@ mod maps;
 mod quoted;
 mod read;
 mod scalars;
+#[cfg(test)]
+mod tests;
 mod value_kind;
 mod value_text_error;
 mod values;
