@@ -1,3 +1,4 @@
+pub mod Content
 pub mod MapText
 pub mod PlainWord
 pub mod Reading

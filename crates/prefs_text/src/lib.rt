@@ -3,15 +3,22 @@
 //! `IsValueText`.
 #![tactic(auto)]
 
+mod json_texts;
+mod laws;
 mod lists;
 mod maps;
 mod quoted;
+mod read;
 mod scalars;
+#[cfg(test)]
+mod tests;
 mod value_kind;
 mod value_text_error;
 mod values;
 
+pub use laws::{one_value, texts_read_back};
 pub use maps::{map_text, push_pair};
+pub use read::parse_value;
 pub use scalars::plain_value;
 pub use value_kind::ValueKind;
 pub use value_text_error::ValueTextError;
