@@ -13,12 +13,12 @@ texts_round (x ∷ xs) (suc place) word within = ap (λ l. string_bytes x ∷ l)
 
 -- nothing is parted into nothing
 pub parted_nothing : (before after : List (List ℕ)) → IsParted [] before after → before ++ after ≡ []
-parted_nothing [] after parted = elim parted.parts [ | inl e ↦ cc | inr e ↦ e.1 ]
-parted_nothing (b ∷ bs) after parted = elim parted.parts [ | inl e ↦ cc | inr e ↦ cc (e.0) ]
+parted_nothing [] after parted = elim parted.parts [ inl e ↦ cc | inr e ↦ e.1 ]
+parted_nothing (b ∷ bs) after parted = elim parted.parts [ inl e ↦ cc | inr e ↦ cc (e.0) ]
 
 -- where no word stands before it, `--` is here
 dashes_here : (word : List ℕ) (words after : List (List ℕ)) → IsParted (word ∷ words) [] after → (word ≡ codes "--") × (words ≡ after)
-dashes_here word words after parted = elim parted.parts [ | inl e ↦ (cc, cc) | inr e ↦ cc (e.0) ]
+dashes_here word words after parted = elim parted.parts [ inl e ↦ (cc, cc) | inr e ↦ cc (e.0) ]
 
 -- else a word that is no option
 word_here : (word : List ℕ) (words : List (List ℕ)) (b : List ℕ) (bs after : List (List ℕ)) → IsParted (word ∷ words) (b ∷ bs) after
@@ -72,8 +72,8 @@ pub parted_at : (words : List (String Global)) (place : ℕ) (word : String Glob
 parted_at words place word within at dashes plain = record {
   no_options = plain;
   parts = inl (texts_round words place word within
-  ∙ ap (λ (w : List ℕ). texts (take place words) ++ w ∷ texts (drop (suc place) words)) (ap string_bytes (sym at) ∙ dashes)
-  ∙ ap (λ (l : List (String Global)). texts (take place words) ++ codes "--" ∷ texts l) (sym (rest_behind words place)));
+      ∙ ap (λ (w : List ℕ). texts (take place words) ++ w ∷ texts (drop (suc place) words)) (ap string_bytes (sym at) ∙ dashes)
+      ∙ ap (λ (l : List (String Global)). texts (take place words) ++ codes "--" ∷ texts l) (sym (rest_behind words place)));
 }
 
 pub refused_at : (words : List (String Global)) (place : ℕ) (word : String Global) → place < length words → word ≡ get_or words place word

@@ -1,6 +1,6 @@
 pub mod AppendLemmas
+pub mod AsksOne
 pub mod ChangeLemmas
-pub mod CommandLemmas
 pub mod DashLemmas
 pub mod EndLemmas
 pub mod LineLemmas

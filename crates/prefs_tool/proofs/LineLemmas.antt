@@ -1,7 +1,7 @@
 -- What a line asks for, by the words that are given in it, and by the words that it was made of.
-use Rattle.std.proofs.Common.{◌≡◌, ◌∙◌, ◌⊎◌, ℕ, All, List, [], ◌∷◌, ◌++◌, Option, Some, None, IfSome, IfNone, codes, inl, inr, refl, ap, sym, subst, String, Global}
+use Rattle.std.proofs.Common.{◌≡◌, ◌∙◌, ℕ, List, [], ◌∷◌, ◌++◌, Option, Some, None, IfSome, IfNone, codes, inl, inr, refl, ap, sym, subst}
 use Rattle.std.proofs.lemmas.List.Elements.{All-nil}
-use Rattle.prefs_tool.specs.Command.{Asks, AsksNothing, Follow, IsRow, name_of, texts}
+use Rattle.prefs_tool.specs.Command.{Asks, AsksNothing, Follow, IsRow, name_of}
 use Rattle.prefs_tool.specs.Line.{LineAsks, MayFollow}
 use Rattle.prefs_tool.specs.Words.{Given, IsNoOption, IsParted}
 use Rattle.prefs_tool.specs.declared.command.Command.{Command}
@@ -112,8 +112,3 @@ none_by_line words behind before after line name parts is parted (Some command) 
 none_by_line words behind before after line name parts is parted None h = λ command asks.
     h command (subst (λ (l : List (List ℕ)). LineAsks l command) (sym is)
     (line_of_asks name behind before after command parted (subst (λ (l : List (List ℕ)). Asks l command) parts asks)))
-
--- no texts are those of no words
-pub no_words : (words : List (String Global)) → texts words ≡ [] → words ≡ []
-no_words [] e = refl
-no_words (word ∷ words) e = cc

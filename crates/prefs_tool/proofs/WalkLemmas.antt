@@ -1,34 +1,31 @@
 -- What `clap` makes of a command's name, `--` and any words behind it.
-use Rattle.std.proofs.Common.{◌≡◌, ◌∙◌, ℕ, ◌≤◌, Bool, true, false, ◌&&◌, ◌⊎◌, inl, inr, List, [], ◌∷◌, ◌++◌, length, Option, Some, None, codes, refl, ap, ap₂, sym, fold, append_assoc, arith, not, is_some, cond}
+use Rattle.std.proofs.Common.{◌≡◌, ◌∙◌, ◌≤◌, Bool, true, false, inl, inr, List, [], ◌∷◌, ◌++◌, length, Option, Some, None, codes, refl, ap, sym, fold, append_assoc, arith, le-leb}
 use Rattle.std.proofs.lemmas.List.{append-nil}
 use Rattle.std.specs.List.{list_all}
-use Rattle.std.specs.Prelude.{nat_le}
-use Rattle.std.proofs.Common.{le-leb}
 use Rattle.std.proofs.Math.Dec.{leb-zero}
-use Rattle.clap.specs.ValueTests.{accepts}
-use Rattle.clap.specs.declared.builder.value_parser.ValueParser.TheVariants as parser
-use Rattle.std.specs.Prelude.{option_map, unwrap_or, Box}
+use Rattle.std.specs.Prelude.{nat_le, option_map, unwrap_or, Box}
 use Rattle.std.specs.Box.{box_value}
 use Rattle.std.specs.Borrow.{Bor}
+use Rattle.clap.specs.ValueTests.{accepts}
+use Rattle.clap.specs.declared.builder.value_parser.ValueParser.TheVariants as parser
 use Rattle.clap.specs.Lexer.{usize_max}
 use Rattle.clap.specs.Words.{all_of, subcommand_rows}
 use Rattle.clap.specs.declared.builder.command.Command.{Command}
 use Rattle.clap.specs.declared.builder.command.Command.TheViews.{out-Command}
 use Rattle.clap.specs.declared.parser.matches.SubCommand.{SubCommand}
 use Rattle.clap.specs.declared.parser.matches.ArgMatches.TheViews.{out-SubCommand}
-use Rattle.clap.specs.Simple.{App, Shape, new_rule, new_app, new_shape, with_rule, with_subcommand, on_top, app_of, app_of_fields, with_index, filled, subcommand_of, built, names_of, entered, is_simple, argument_words}
-use Rattle.clap.specs.Walk.{Held, Row, Rule, Text, Walk, Waiting, idle, positional, walked, walk, walk_from, nothing_held, rows_after, stop_after, Names}
-use Rattle.clap.specs.Takes.{takes, level_passes, walk_passes, turn_passes, entered_passes, built_takes, values_pass}
-use Rattle.clap.specs.declared.builder.value_parser.Reading.TheVariants as reading
-use Rattle.clap.specs.declared.parser.matches.ValueSource.TheVariants.{CommandLine}
+use Rattle.clap.specs.Simple.{App, Shape, new_app, new_shape, with_subcommand, on_top, app_of, app_of_fields, with_index, filled, subcommand_of, built, names_of, entered, is_simple}
+use Rattle.clap.specs.Walk.{Text, Walk, idle, positional, walked, walk, walk_from, nothing_held, rows_after, Names}
+use Rattle.clap.specs.Takes.{takes, level_passes, walk_passes, turn_passes, entered_passes}
+use Rattle.clap.proofs.OnLiterals.{clap_on_literals}
 use Rattle.prefs_tool.specs.Line.{IsLine, MayFollow, TakesWords, texts_at}
 use Rattle.prefs_tool.specs.Matches.{rows_of_words, with_words, words_rule}
-use Rattle.clap.proofs.OnLiterals.{clap_on_literals}
 
--- the program, and with its commands
+-- the program without its commands
 abbrev pub prefs_alone : App
 prefs_alone = on_top (λ s. record s { no_binary_name = true; disable_help_flag = true; disable_help_subcommand = true }) (new_app (codes "prefs"))
 
+-- and with them
 abbrev pub prefs : App
 prefs = with_subcommand (with_subcommand (with_subcommand (with_subcommand prefs_alone (with_words (codes "set"))) (with_words (codes "get")))
     (with_words (codes "remove"))) (new_shape (codes "show"))
@@ -219,6 +216,7 @@ given_words None none (word ∷ rest) empty same = cc
 given_words (Some s) none [] empty same = cc
 given_words (Some s) none (word ∷ rest) empty same = cc
 
+-- the name of the subcommand, by its rows
 module _ {Z : Type 0} where
   pub name_of_rows : (o : Option (Box SubCommand Z)) → option_map (λ b. (out-SubCommand (box_value b)).name.now) o ≡ option_map (λ p. p.0) (subcommand_rows o)
   name_of_rows None = refl

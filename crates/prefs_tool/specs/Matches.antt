@@ -1,5 +1,5 @@
 -- What `clap` finds in a line.
-use Rattle.std.specs.Prelude.{ℕ, ◌≡◌, List, [], ◌∷◌, false, Some, None, codes}
+use Rattle.std.specs.Prelude.{◌≡◌, List, [], ◌∷◌, false, Some, None, codes}
 use Rattle.clap.specs.Lexer.{usize_max}
 use Rattle.clap.specs.Words.{Row, Rule, Shape, Text, new_app, new_rule, shape_of, subcommand_rows_of, with_rule}
 use Rattle.clap.specs.declared.builder.command.Command.{Command}

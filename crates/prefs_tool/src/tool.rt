@@ -1,10 +1,9 @@
 ghost use Rattle.std.specs.Prelude.{◌≡◌, Err};
-ghost use Rattle.prefs_tool.specs.Command.{Asks, AsksNothing};
+ghost use Rattle.prefs_tool.specs.Command.{Asks, AsksNothing, texts};
 ghost use Rattle.prefs_tool.specs.declared.command.Command.{Command};
 ghost use Rattle.prefs_tool.specs.Ending.{Ends};
 ghost use Rattle.prefs_tool.specs.Outcome.{Outcome, RefusesWords, Reports};
 ghost use Rattle.prefs_tool.specs.Status.{line_of};
-ghost use Rattle.prefs_tool.specs.Words.{texts};
 
 use crate::Status;
 use crate::change::change;
@@ -46,11 +45,13 @@ pub fn run_tool<S: Source, K: Sink, F: Folder>(
     let Some(command) = asked else {
         return tell(sink, ToolError::Words);
     };
-    match run_command(alloc, sink, folder, command) {
-        Ok(()) => Status::Done,
-        Err(ToolError::WriteFault) => Status::WriteFault,
-        Err(error) => tell(sink, error),
+    let Err(error) = run_command(alloc, sink, folder, command) else {
+        return Status::Done;
+    };
+    if error.is_write_fault() {
+        return Status::WriteFault;
     }
+    tell(sink, error)
 }
 
 fn run_command<K: Sink, F: Folder>(

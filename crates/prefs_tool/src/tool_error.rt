@@ -1,5 +1,5 @@
-ghost use Rattle.std.specs.Prelude.{◌≡◌};
-ghost use Rattle.prefs_tool.specs.declared.tool_error.ToolError.TheVariants.{Storage, NoMemory};
+ghost use Rattle.std.specs.Prelude.{◌≡◌, ◌↔◌, IsTrue};
+ghost use Rattle.prefs_tool.specs.declared.tool_error.ToolError.TheVariants.{Storage, WriteFault, NoMemory};
 ghost use Rattle.prefs_tool.specs.Status.{status_of};
 
 use crate::Status;
@@ -41,6 +41,13 @@ impl ToolError {
             ToolError::NoMemory => Status::NoMemory,
             ToolError::NoKey => Status::NoKey,
         }
+    }
+
+    /// Whether a write failed, so that nothing more is written.
+    pub(crate) fn is_write_fault(self) -> bool
+        ensures { IsTrue result ↔ (self ≡ WriteFault) }
+    {
+        matches!(self, ToolError::WriteFault)
     }
 }
 

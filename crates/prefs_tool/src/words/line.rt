@@ -1,5 +1,5 @@
 //! How `clap` reads the line of a command.
-ghost use Rattle.std.specs.Prelude.{◌≡◌,  IfOk, IfErr, IfSome, IfNone};
+ghost use Rattle.std.specs.Prelude.{◌≡◌, IfOk, IfErr, IfSome, IfNone};
 ghost use Rattle.clap.specs.Words.{kind_of};
 ghost use Rattle.prefs_tool.specs.Line.{IsLine, LineAsks, texts_at};
 ghost use Rattle.prefs_tool.specs.Matches.{HasWords, TakesAny};

@@ -1,4 +1,4 @@
-use Rattle.std.proofs.Common.{◌≡◌, ◌∷◌, ◌∙◌, ◌++◌, ◌-◌, IsTrue, List, Global, String, ap, codes, drop, false, length, string_bytes, subst, sym, take, true, ℕ}
+use Rattle.std.proofs.Common.{◌≡◌, ◌∷◌, ◌∙◌, ◌++◌, List, ap, codes, false, string_bytes, subst, sym, true, ℕ}
 use Rattle.std.proofs.lemmas.Result.{IfOk-weaker}
 use Rattle.prefs_tool.specs.Command.{texts}
 use Rattle.prefs_tool.specs.Line.{MayFollow, texts_at}
@@ -10,8 +10,8 @@ pub returns-then-not-may_follow-clause-none : goal.returns-then-not-may_follow-c
 returns-then-not-may_follow-clause-none c =
     none_by_name _ _ _ (first_and_rest c.args.words.now _ c.in-len1-up.len_at_least c.name-item.is)
     (λ may.
-      let bad : false ≡ true = sym c.if-not-may_follow.true ∙ c.may_follow.ensures.1 (subst (λ (n : List ℕ). MayFollow n (texts (behind_first c.args.words.now))) (sym c.as_str.ensures.value) may) in
-      cc)
+    let bad : false ≡ true = sym c.if-not-may_follow.true ∙ c.may_follow.ensures.1 (subst (λ (n : List ℕ). MayFollow n (texts (behind_first c.args.words.now))) (sym c.as_str.ensures.value) may) in
+    cc)
 
 pub returns-in_default-parted-clause-none : goal.returns-in_default-parted-clause-none
 returns-in_default-parted-clause-none c =

@@ -1,4 +1,4 @@
-use Rattle.std.proofs.Common.{◌≡◌, ◌≢◌, rules, codes, get_or, string_bytes, sym, ◌∙◌}
+use Rattle.std.proofs.Common.{◌≡◌, ◌≢◌, rules, codes, get_or, string_bytes}
 use Rattle.prefs_tool.proofs.DashLemmas.{parted_at, refused_at, parted_whole}
 use Rattle.prefs_tool.proofs.words.dashes.parted.Goals as goal
 

@@ -1,12 +1,11 @@
 -- `clap` is asked at words that no test here can see, so its walk over them is proved by hand.
-use Rattle.std.proofs.Common.{◌≡◌, ◌≤◌, ◌∙◌, ap, ap₂, arith, codes, false, length, rules, true}
+use Rattle.std.proofs.Common.{◌≡◌, ◌≤◌, ◌∙◌, ap, ap₂, arith, codes, length, true}
 use Rattle.std.proofs.lemmas.List.{length-map}
 use Rattle.std.proofs.lemmas.Result.{IfErr-weaker, IfOk-weaker}
 use Rattle.clap.specs.Lexer.{usize_max}
-use Rattle.clap.specs.Simple.{App, app_of, app_of_fields, is_simple, on_top, new_app, new_shape, shape_of, subcommand_of, with_subcommand}
+use Rattle.clap.specs.Simple.{App, app_of, is_simple, new_shape, shape_of, subcommand_of, with_subcommand}
 use Rattle.clap.specs.Takes.{takes}
 use Rattle.prefs_tool.specs.Line.{texts_at}
-use Rattle.prefs_tool.specs.Matches.{with_words}
 use Rattle.prefs_tool.proofs.WalkLemmas.{alone_is, prefs, prefs_alone, prefs_simple, reads_line, takes_line}
 use Rattle.prefs_tool.proofs.words.line.matches_of.Goals as goal
 
@@ -26,8 +25,8 @@ returns-clause-ok c =
     let simple : is_simple (app_of c.in_ok-subcommand-4.field-0) ≡ true = ap is_simple (built_is c) ∙ prefs_simple in
     let parse = c.try_get_matches_from in
     IfOk-weaker parse.result _ _ (λ m h name given words.
-      (h simple).1 ∙ ap (λ (a : App). subcommand_of a (texts_at c.args.line.now)) (built_is c) ∙ reads_line (texts_at c.args.line.now) c.requires name given words)
-      parse.ensures.matches
+    (h simple).1 ∙ ap (λ (a : App). subcommand_of a (texts_at c.args.line.now)) (built_is c) ∙ reads_line (texts_at c.args.line.now) c.requires name given words)
+    parse.ensures.matches
 
 pub returns-clause-err : goal.returns-clause-err
 returns-clause-err c =
@@ -35,4 +34,4 @@ returns-clause-err c =
     let texts_within : length (texts_at c.args.line.now) ≤ usize_max = simp length-map within in
     let parse = c.try_get_matches_from in
     IfErr-weaker parse.result _ _ (λ e h. h (ap (λ (a : App). takes a (texts_at c.args.line.now)) (built_is c) ∙ takes_line (texts_at c.args.line.now) c.requires texts_within))
-      parse.ensures.passes
+    parse.ensures.passes

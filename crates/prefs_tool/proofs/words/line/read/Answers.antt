@@ -1,13 +1,11 @@
-use Rattle.std.proofs.Common.{◌≡◌, ◌∷◌, ◌∙◌, ap, sym, subst, refl, List, [], ℕ, Some, None, IfSome, IfNone, codes, option_map}
+use Rattle.std.proofs.Common.{◌≡◌, ◌∙◌, ap, refl, List, Some, None, codes, option_map}
 use Rattle.std.proofs.lemmas.Result.{IfOk-weaker}
 use Rattle.clap.specs.Walk.{Row, Text}
 use Rattle.clap.specs.Words.{rows_of, found_of, all_of, subcommand_rows_of}
 use Rattle.clap.proofs.WalkLemmas.{raw_values-rows}
 use Rattle.clap.specs.declared.parser.matches.ArgMatches.TheViews.{out-ArgMatches}
-use Rattle.prefs_tool.specs.Command.{IsRow, name_of}
-use Rattle.prefs_tool.specs.Line.{IsLine, LineAsks, texts_at}
-use Rattle.prefs_tool.specs.Matches.{HasWords, rows_of_words}
-use Rattle.prefs_tool.specs.declared.command.Command.{Command}
+use Rattle.prefs_tool.specs.Line.{texts_at}
+use Rattle.prefs_tool.specs.Matches.{rows_of_words}
 use Rattle.prefs_tool.proofs.WalkLemmas.{given_words, name_of_rows}
 use Rattle.prefs_tool.proofs.LineLemmas.{line_asks_some, line_asks_none}
 use Rattle.prefs_tool.proofs.words.line.read.Goals as goal
