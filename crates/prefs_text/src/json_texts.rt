@@ -64,7 +64,7 @@ fn strings_of(alloc: Global, items: Vec<Value>) -> Result<Entries<PrefText>, Val
     Ok(texts)
 }
 
-// Whether the text begins and ends with these characters, which are two.
+// Whether the text begins with the one character and, behind it, ends with the other.
 fn is_between(text: &str, first: char, last: char) -> bool
     requires first { first < 128 }
     requires last { last < 128 }

@@ -11,7 +11,7 @@ use crate::ValueKind;
 use itoa::Buffer;
 use prefs_model::PrefValue;
 
-/// The value of the kind that one bare word is, printed as it is. No word is a `Text` or a `Texts` so.
+/// The value of the kind that prints as this bare word. A `Text` or a `Texts` is never one.
 pub fn plain_value(kind: ValueKind, word: &str) -> Option<PrefValue>
     ensures some { IfSome result (λ value. IsPlainWord kind word.now value) }
     ensures none { IfNone result ((value : PrefValue) → ¬ IsPlainWord kind word.now value) }
