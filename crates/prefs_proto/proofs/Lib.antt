@@ -1,12 +1,8 @@
 pub mod Counts
 pub mod Decodes
 pub mod Drafts
-pub mod Fields
-pub mod Layouts
+pub mod Faults
 pub mod Loops
-pub mod Places
 pub mod Rows
 pub mod Steps
-pub mod Varints
 pub mod Walk
-pub mod Written

@@ -1,13 +1,13 @@
 -- Walking over a message whose fields give items, and what follows from the relation alone.
-use Rattle.std.proofs.Common.{◌≡◌, ℕ, ◌+◌, ◌<◌, inl, inr, List, [], ◌∷◌, ◌++◌, length, Option, None, Some, Result, Err, refl, sym, ap, subst, ◌∙◌, append_assoc, arith}
+use Rattle.std.proofs.Common.{◌≡◌, ℕ, ◌+◌, inl, inr, List, [], ◌∷◌, ◌++◌, length, Option, None, Some, Err, refl, sym, ap, subst, ◌∙◌, append_assoc, arith}
 use Rattle.std.proofs.lemmas.List.{append-nil, length-append, append_cancel_right}
 use Rattle.wire_codec.specs.declared.wire_error.WireError.{WireError}
 use Rattle.wire_codec.specs.Fields.{FieldSeen, IsField, Fields, none, more}
 use Rattle.wire_codec.specs.Faults.{FieldFault}
 use Rattle.wire_codec.specs.Reader.{ReaderSeen, TakesField, IsAtEnd, Next, HasRead}
-use Rattle.wire_codec.proofs.Unique.{field_once, field_some, fields_once, fields_not_fault}
+use Rattle.wire_codec.proofs.Unique.{field_once, field_some, fields_not_fault}
 use Rattle.wire_codec.proofs.Walk.{has_read_none, has_read_more, has_read_all}
-use Rattle.prefs_proto.specs.Message.{Gathers, Message, MessageFault, FaultInside, Nested, FaultIn}
+use Rattle.prefs_proto.specs.Message.{Gathers, Message, MessageFault, Nested, FaultIn}
 
 -- ---- fields that begin bytes
 
@@ -32,18 +32,6 @@ fields_front (g ∷ xs) (h ∷ ys) f at bytes before text behind (more front res
     (found.0, ap (λ (k : FieldSeen). k ∷ xs) one.0 ∙ ap (λ (t : List FieldSeen). h ∷ t) found.1)
 
 module _ {X : Type 0} (Gives : FieldSeen → List X → Type 0) where
-  -- ---- one reading
-
-  gathers_once : ((f : FieldSeen) (xs ys : List X) → Gives f xs → Gives f ys → xs ≡ ys) → (fields : List FieldSeen) (xs ys : List X) → Gathers Gives fields xs → Gathers Gives fields ys → xs ≡ ys
-  gathers_once once [] xs ys p q = p ∙ sym q
-  gathers_once once (f ∷ fields) xs ys p q =
-      p.2 ∙ ap (λ (a : List X). a ++ p.1) (once f p.0 q.0 p.3 q.3) ∙ ap (λ (b : List X). q.0 ++ b) (gathers_once once fields p.1 q.1 p.4 q.4) ∙ sym q.2
-
-  pub message_once : ((f : FieldSeen) (xs ys : List X) → Gives f xs → Gives f ys → xs ≡ ys) → (at : ℕ) (bytes : List ℕ) (xs ys : List X) → Message Gives at bytes xs → Message Gives at bytes ys → xs ≡ ys
-  message_once once at bytes xs ys m n =
-      let same = fields_once n.fields m.fields n.are_fields m.are_fields refl in
-      gathers_once once m.fields xs ys m.gathered (subst (λ (fields : List FieldSeen). Gathers Gives fields ys) same n.gathered)
-
   -- ---- a message has no fault
 
   gathers_gives : (fields : List FieldSeen) (f : FieldSeen) (behind : List FieldSeen) (xs : List X) → Gathers Gives (fields ++ f ∷ behind) xs → (ys : List X) × Gives f ys
@@ -125,10 +113,6 @@ module _ {X : Type 0} (Gives : FieldSeen → List X → Type 0) where
 -- ---- messages in messages
 
 module _ {X Y : Type 0} (IsInner : ℕ → List ℕ → List Y → Type 0) (wrap : List Y → List X) (plain : List X) where
-  pub nested_once : ((at : ℕ) (bytes : List ℕ) (xs ys : List Y) → IsInner at bytes xs → IsInner at bytes ys → xs ≡ ys) → (place : ℕ) (bytes : Option (List ℕ)) (xs ys : List X) → Nested IsInner wrap plain place bytes xs → Nested IsInner wrap plain place bytes ys → xs ≡ ys
-  nested_once once place None xs ys p q = p ∙ sym q
-  nested_once once place (Some bytes) xs ys p q = p.2 ∙ ap wrap (once place bytes p.0 q.0 p.1 q.1) ∙ sym q.2
-
   pub nested_not_fault : (IsFault : ℕ → List ℕ → WireError → Type 0) → ((at : ℕ) (bytes : List ℕ) (xs : List Y) (e : WireError) → IsInner at bytes xs → IsFault at bytes e → ⊥) → (place : ℕ) (bytes : Option (List ℕ)) (xs : List X) (e : WireError) → Nested IsInner wrap plain place bytes xs → FaultIn IsFault place bytes e → ⊥
   nested_not_fault IsFault apart place None xs e p fault = fault
   nested_not_fault IsFault apart place (Some bytes) xs e p fault = apart place bytes p.0 e p.1 fault

@@ -3,7 +3,6 @@
 ghost use Rattle.std.specs.Prelude.{◌≡◌, ◌<◌, ◌^◌, ℕ, List, length};
 ghost use Rattle.prefs_model.specs.declared.pref_pair.PrefPair.{PrefPair};
 ghost use Rattle.prefs_model.specs.Map.{IsMap};
-ghost use Rattle.prefs_proto.specs.Varint.{varint, IsVarint};
 ghost use Rattle.prefs_proto.specs.Encoded.{encoded};
 ghost use Rattle.prefs_proto.specs.Reads.{Reads};
 
@@ -20,9 +19,4 @@ pub fn written_is_read()
 /// What is read is a map.
 pub fn map_is_read()
     ensures { (bytes : List ℕ) (pairs : List PrefPair) → Reads bytes pairs → IsMap pairs }
-{}
-
-/// The varints that are written are the shortest ones of the encoding guide.
-pub fn shortest_varint()
-    ensures { (n : ℕ) → n < 2 ^ 64 → IsVarint (varint n) n }
 {}

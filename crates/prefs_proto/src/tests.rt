@@ -4,7 +4,7 @@ use super::{DecodeError, PrefsCodec};
 use prefs_model::{PrefKey, PrefMap, PrefText, PrefValue, TextSet};
 use std::alloc::{AllocError, Global};
 use std::test::Fail;
-use store_traits::Decoded;
+use store_traits::{Codec, Decoded};
 use wire_codec::WireError;
 
 fn key_of(alloc: Global, text: &str) -> Result<PrefKey, Fail> {
