@@ -12,6 +12,7 @@ use folder_disk::Folder;
 use prefs_model::{PrefKey, PrefMap, PrefValue};
 use prefs_proto::PrefsCodec;
 use std::alloc::Global;
+use store_traits::Codec;
 
 /// Gives the key this value in the settings that main reads as. Where it has that value, nothing is
 /// written, and the folder is synced all the same.

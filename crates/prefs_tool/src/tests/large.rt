@@ -6,6 +6,7 @@ use prefs_model::{PrefKey, PrefMap, PrefValue};
 use prefs_proto::PrefsCodec;
 use std::alloc::{AllocError, Global};
 use std::test::Fail;
+use store_traits::Codec;
 
 /// A key of `len` bytes that ends in a number of four digits.
 fn key_of(alloc: Global, number: usize, len: usize) -> Result<String, AllocError> {
