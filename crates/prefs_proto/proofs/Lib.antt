@@ -3,6 +3,8 @@ pub mod Decodes
 pub mod Drafts
 pub mod Faults
 pub mod Loops
+pub mod OneFault
+pub mod OneRefusal
 pub mod Rows
 pub mod Steps
 pub mod Walk

@@ -4,7 +4,8 @@ ghost use Rattle.std.specs.Prelude.{◌≡◌, ◌<◌, ◌^◌, ℕ, List, leng
 ghost use Rattle.prefs_model.specs.declared.pref_pair.PrefPair.{PrefPair};
 ghost use Rattle.prefs_model.specs.Map.{IsMap};
 ghost use Rattle.prefs_proto.specs.Encoded.{encoded};
-ghost use Rattle.prefs_proto.specs.Reads.{Reads};
+ghost use Rattle.prefs_proto.specs.Reads.{Reads, IsRefusal};
+ghost use Rattle.prefs_proto.specs.declared.decode_error.DecodeError.{DecodeError};
 
 /// Bytes are read as at most one map.
 pub fn one_map_read()
@@ -19,4 +20,10 @@ pub fn written_is_read()
 /// What is read is a map.
 pub fn map_is_read()
     ensures { (bytes : List ℕ) (pairs : List PrefPair) → Reads bytes pairs → IsMap pairs }
+{}
+
+/// Bytes are refused in one way at most, and not at all where they read as a map.
+pub fn one_refusal()
+    ensures same { (bytes : List ℕ) (d e : DecodeError) → IsRefusal bytes d → IsRefusal bytes e → d ≡ e }
+    ensures no_map { (bytes : List ℕ) (e : DecodeError) (pairs : List PrefPair) → IsRefusal bytes e → Reads bytes pairs → ⊥ }
 {}

@@ -23,7 +23,7 @@ mod tag;
 mod value;
 
 pub use decode_error::DecodeError;
-pub use laws::{map_is_read, one_map_read, written_is_read};
+pub use laws::{map_is_read, one_map_read, one_refusal, written_is_read};
 pub use prefs_codec::PrefsCodec;
 
 #[cfg(test)]
