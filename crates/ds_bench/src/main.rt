@@ -9,7 +9,7 @@ use std::alloc::Global;
 use std::hint::black_box;
 use std::time::Instant;
 use std::{env, fs};
-use store_traits::Decoded;
+use store_traits::{Codec, Decoded};
 
 /// What is done once.
 #[derive(Clone, Copy, Debug)]

@@ -1,22 +1,22 @@
 -- How many bytes there are, as far as 64 bits count.
-use Rattle.std.proofs.Common.{◌≡◌, ℕ, ◌+◌, ◌-◌, ◌^◌, ◌<◌, ◌≤◌, List, [], ◌∷◌, ◌++◌, length, min, take, get_or, ap, subst, sym, refl, ◌∙◌, arith, length-append, inl, inr}
+use Rattle.std.proofs.Common.{◌≡◌, ℕ, ◌+◌, ◌-◌, ◌^◌, ◌<◌, ◌≤◌, List, ◌++◌, length, min, take, get_or, ap, sym, ◌∙◌, arith, length-append, inl, inr}
 use Rattle.std.proofs.lemmas.Bool.{cases_lt}
-use Rattle.prefs_proto.specs.Varint.{varint}
+use Rattle.wire_codec.specs.Text.{varint_text}
 use Rattle.std.proofs.lemmas.Grind.{common_steps}
 use Rattle.prefs_proto.specs.FieldText.{field, count_of}
 use Rattle.prefs_proto.specs.ValueText.{set_text}
-use Rattle.prefs_proto.proofs.Fields.{length-field}
+use Rattle.prefs_proto.specs.Laws.Fields.{length-field}
 
 pub counted : (bytes : List ℕ) (len : ℕ) → len ≡ count_of bytes → len < 2 ^ 64 - 1 → len ≡ length bytes
 counted bytes len is small = omega arith
 
-count_small : (tag : ℕ) (content : List ℕ) (len : ℕ) → len ≡ length content → min (1 + length (varint len) + len) (2 ^ 64 - 1) ≡ count_of (field tag content)
+count_small : (tag : ℕ) (content : List ℕ) (len : ℕ) → len ≡ length content → min (1 + length (varint_text len) + len) (2 ^ 64 - 1) ≡ count_of (field tag content)
 count_small tag content len is = rw is (omega (arith, length-field tag content))
 
-count_large : (tag : ℕ) (content : List ℕ) (len : ℕ) → len ≡ count_of content → 2 ^ 64 - 1 ≤ length content → min (1 + length (varint len) + len) (2 ^ 64 - 1) ≡ count_of (field tag content)
+count_large : (tag : ℕ) (content : List ℕ) (len : ℕ) → len ≡ count_of content → 2 ^ 64 - 1 ≤ length content → min (1 + length (varint_text len) + len) (2 ^ 64 - 1) ≡ count_of (field tag content)
 count_large tag content len is large = omega (arith, length-field tag content)
 
-pub count-field : (tag : ℕ) (content : List ℕ) (len : ℕ) → len ≡ count_of content → min (1 + length (varint len) + len) (2 ^ 64 - 1) ≡ count_of (field tag content)
+pub count-field : (tag : ℕ) (content : List ℕ) (len : ℕ) → len ≡ count_of content → min (1 + length (varint_text len) + len) (2 ^ 64 - 1) ≡ count_of (field tag content)
 count-field tag content len is =
     elim (cases_lt (length content) (2 ^ 64 - 1)) [
       | inl small ↦ count_small tag content len (omega arith)

@@ -1,10 +1,10 @@
 -- What members leave of a value, one after the other.
-use Rattle.std.proofs.Common.{◌≡◌, ℕ, List, [], ◌∷◌, ◌++◌, map, reverse, Option, None, Some, refl, sym, ap, ◌∙◌, append_assoc}
+use Rattle.std.proofs.Common.{◌≡◌, ℕ, List, [], ◌∷◌, ◌++◌, map, reverse, refl, sym, ap, ◌∙◌, append_assoc}
 use Rattle.std.proofs.lemmas.List.{append-nil, reverse-append}
 use Rattle.prefs_model.specs.declared.pref_value.PrefValue.{PrefValue}
 use Rattle.prefs_model.specs.declared.pref_value.PrefValue.TheVariants.{Text}
 use Rattle.prefs_proto.specs.declared.draft.Draft.{Draft}
-use Rattle.prefs_proto.specs.declared.draft.Draft.TheVariants.{Unset, One, Run}
+use Rattle.prefs_proto.specs.declared.draft.Draft.TheVariants.{One, Run}
 use Rattle.prefs_proto.specs.Layout.{TextSeen, MemberSeen, scalar, text, texts, PartSeen, key, member}
 use Rattle.prefs_proto.specs.Entry.{bytes_of_text, run_of, value_back, last_key, members_of}
 use Rattle.prefs_proto.specs.Found.{draft_back, run_in, settled, Drafts}
@@ -47,15 +47,7 @@ members_of-append [] ys = refl
 members_of-append (key t ∷ xs) ys = members_of-append xs ys
 members_of-append (member m ∷ xs) ys = ap (λ (ms : List MemberSeen). m ∷ ms) (members_of-append xs ys)
 
-pub members_of_members : (members : List MemberSeen) → members_of (map member members) ≡ members
-members_of_members [] = refl
-members_of_members (m ∷ members) = ap (λ (ms : List MemberSeen). m ∷ ms) (members_of_members members)
-
 pub last_key-append : (last : List ℕ) (xs ys : List PartSeen) → last_key last (xs ++ ys) ≡ last_key (last_key last xs) ys
 last_key-append last [] ys = refl
 last_key-append last (key t ∷ xs) ys = last_key-append t.bytes xs ys
 last_key-append last (member m ∷ xs) ys = last_key-append last xs ys
-
-pub last_key_members : (last : List ℕ) (members : List MemberSeen) → last_key last (map member members) ≡ last
-last_key_members last [] = refl
-last_key_members last (m ∷ members) = last_key_members last members

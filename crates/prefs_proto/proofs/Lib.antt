@@ -1,12 +1,10 @@
 pub mod Counts
 pub mod Decodes
 pub mod Drafts
-pub mod Fields
-pub mod Layouts
+pub mod Faults
 pub mod Loops
-pub mod Places
+pub mod OneFault
+pub mod OneRefusal
 pub mod Rows
 pub mod Steps
-pub mod Varints
 pub mod Walk
-pub mod Written

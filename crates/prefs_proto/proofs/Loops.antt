@@ -1,9 +1,8 @@
 -- The loops over the fields of each message: what they keep, how a field adds to it, and what they answer.
-use Rattle.std.proofs.Common.{◌≡◌, ℕ, List, [], ◌∷◌, ◌++◌, map, reverse, Option, None, Some, Result, Err, refl, sym, ap, ◌∙◌, append_assoc}
+use Rattle.std.proofs.Common.{◌≡◌, ℕ, List, [], ◌∷◌, ◌++◌, map, Option, None, Err, refl, sym, ap, ◌∙◌, append_assoc}
 use Rattle.std.proofs.lemmas.List.{append-nil}
-use Rattle.wire_codec.specs.declared.wire_error.WireError.{WireError}
 use Rattle.wire_codec.specs.Fields.{FieldSeen}
-use Rattle.wire_codec.specs.Reader.{ReaderSeen, TakesField, IsAtEnd, Next}
+use Rattle.wire_codec.specs.Reader.{ReaderSeen, TakesField, IsAtEnd}
 use Rattle.prefs_proto.specs.declared.draft.Draft.{Draft}
 use Rattle.prefs_proto.specs.declared.draft.Draft.TheVariants.{Unset}
 use Rattle.prefs_proto.specs.declared.stop.Stop.{Stop}
@@ -13,9 +12,9 @@ use Rattle.prefs_proto.specs.declared.read_map.MapFound.{MapFound}
 use Rattle.prefs_proto.specs.Layout.{TextSeen, SetGives, MemberSeen, ValueGives, ValueFaulty, PartSeen, EntryGives, EntryFaulty, EntrySeen, MapGives, MapFaulty}
 use Rattle.prefs_proto.specs.Entry.{bytes_of_text, last_key, members_of}
 use Rattle.prefs_proto.specs.Reads.{least, bad_text, texts_of_member, texts_of_part}
-use Rattle.prefs_proto.specs.Found.{TextGiven, SetAdded, Drafts, draft_back, bad_member, MemberGiven, MemberRead, ValueAdded, ValueRead, bad_part, PartGiven, PartRead, EntryIs, EntryRead, AreFound, EntryGiven, EntryAdded, MapIs, MapRead}
+use Rattle.prefs_proto.specs.Found.{TextGiven, SetAdded, Drafts, bad_member, MemberGiven, MemberRead, ValueAdded, ValueRead, bad_part, PartGiven, PartRead, EntryIs, EntryRead, AreFound, EntryGiven, EntryAdded, MapIs, MapRead}
 use Rattle.prefs_proto.proofs.Walk.{Walk, walk_none, walk_more, walk_all, walk_inside}
-use Rattle.prefs_proto.proofs.Places.{none_of_least, bad_text-append, bad_among-append}
+use Rattle.prefs_proto.specs.Laws.Places.{none_of_least, bad_text-append, bad_among-append}
 use Rattle.prefs_proto.proofs.Drafts.{drafts_none, drafts_then, members_of-append, last_key-append}
 
 -- at the first byte of a message

@@ -1,9 +1,8 @@
 -- What one field adds.
-use Rattle.std.proofs.Common.{◌≡◌, ℕ, ◌<◌, ◌≤◌, List, [], ◌∷◌, ◌++◌, length, map, Bool, true, false, ltb, not, Option, None, Some, Result, Ok, Err, refl, sym, ap, subst, ◌∙◌, arith, if◌then◌else◌}
+use Rattle.std.proofs.Common.{◌≡◌, ℕ, ◌<◌, ◌≤◌, List, [], ◌∷◌, ◌++◌, length, map, Bool, true, false, Option, None, Some, Result, Ok, Err, refl, sym, ap, subst, ◌∙◌}
 use Rattle.std.specs.Str.{IsUtf8, is_utf8}
-use Rattle.std.proofs.lemmas.Str.{IsUtf8-from_is_utf8, is_utf8-from_IsUtf8}
+use Rattle.std.proofs.lemmas.Str.{IsUtf8-from_is_utf8}
 use Rattle.std.proofs.lemmas.Bool.{lt-ltb, le-ltb}
-use Rattle.wire_codec.specs.declared.wire_error.WireError.{WireError}
 use Rattle.wire_codec.specs.Fields.{FieldSeen}
 use Rattle.prefs_model.specs.declared.pref_entry.PrefEntry.{PrefEntry}
 use Rattle.prefs_model.specs.declared.pref_value.PrefValue.{PrefValue}
@@ -15,17 +14,16 @@ use Rattle.prefs_proto.specs.declared.stop.Stop.TheVariants.{Wire, NoMemory}
 use Rattle.prefs_proto.specs.declared.read_entry.EntryFound.{EntryFound}
 use Rattle.prefs_proto.specs.declared.read_map.MapFound.{MapFound}
 use Rattle.prefs_proto.specs.Message.{bytes_of, Nested, FaultIn}
-use Rattle.prefs_proto.specs.Layout.{TextSeen, texts_from, IsStringSet, StringSetFault, MemberSeen, scalar, text, texts, set_member, members_from, scalar_of, IsValueMessage, ValueFault, PartSeen, key, member, IsEntryMessage, EntryFault, EntrySeen, entry_at}
-use Rattle.prefs_proto.specs.Entry.{last_key, members_of, key_of, value_of}
-use Rattle.prefs_proto.specs.Reads.{least, bad_text, long_key, is_too_long, texts_of_member, texts_of_part, texts_of_entry}
-use Rattle.prefs_proto.specs.Found.{one_text, TextRead, DraftSetRead, settled, bad_member, MemberGiven, MemberRead, ValueRead, bad_part, PartGiven, PartRead, EntryIs, bad_entry, entry_said, AreFound, EntryGiven}
-use Rattle.prefs_proto.proofs.Places.{least_none, none_of_least, bad_among-append, bad_among-one, texts_of_members, long_key-append}
-use Rattle.prefs_proto.proofs.Drafts.{drafts_none, drafts_scalar, drafts_text, drafts_texts, settled_back, members_of_members, last_key_members}
+use Rattle.prefs_proto.specs.Layout.{texts_from, IsStringSet, StringSetFault, MemberSeen, scalar, text, texts, set_member, members_from, scalar_of, IsValueMessage, ValueFault, PartSeen, key, member, IsEntryMessage, EntrySeen, entry_at}
+use Rattle.prefs_proto.specs.Entry.{key_of, value_of}
+use Rattle.prefs_proto.specs.Reads.{least, bad_text, long_key, texts_of_member, texts_of_part, texts_of_entry}
+use Rattle.prefs_proto.specs.Found.{one_text, TextRead, DraftSetRead, settled, MemberGiven, MemberRead, ValueRead, bad_part, PartGiven, PartRead, EntryIs, bad_entry, entry_said, EntryGiven}
+use Rattle.prefs_proto.specs.Laws.Places.{least_none, none_of_least, bad_among-append, bad_among-one, texts_of_members, long_key-append}
+use Rattle.prefs_proto.proofs.Drafts.{drafts_none, drafts_scalar, drafts_text, drafts_texts, settled_back}
+use Rattle.prefs_proto.specs.Laws.OneReading.{plain_members, plain_parts}
+use Rattle.prefs_proto.specs.Laws.Entries.{members_of_members, last_key_members}
 
 -- ---- a text
-
-pub good_text : (place : ℕ) (bytes : List ℕ) → IsUtf8 bytes → bad_text (one_text place bytes) ≡ None
-good_text place bytes is = rw (is_utf8-from_IsUtf8 bytes is) refl
 
 no_text_by : (b : Bool) (place : ℕ) (bytes : List ℕ) → is_utf8 bytes ≡ b → (IsUtf8 bytes → ⊥) → bad_text (one_text place bytes) ≡ Some place
 no_text_by true place bytes is not_utf8 = absurd (not_utf8 (IsUtf8-from_is_utf8 bytes is))
@@ -38,9 +36,6 @@ some_not_none : {X : Type 0} (x : X) → Some x ≡ None → ⊥
 some_not_none x is = cc
 
 -- ---- a member
-
-abbrev plain_members : FieldSeen → List MemberSeen
-plain_members f = members_from f.payload_place (bytes_of 5 f) (scalar_of f.number f.payload)
 
 abbrev MemberNested : FieldSeen → Option (List ℕ) → List MemberSeen → Type 0
 MemberNested f bytes members = Nested IsStringSet set_member (plain_members f) f.payload_place bytes members
@@ -88,7 +83,7 @@ member_scalar f value old no_set no_text is = record {
 -- ---- a part of an entry
 
 abbrev PartNested : FieldSeen → Option (List ℕ) → List PartSeen → Type 0
-PartNested f bytes parts = Nested IsValueMessage (map member) (map key (texts_from f.payload_place (bytes_of 1 f))) f.payload_place bytes parts
+PartNested f bytes parts = Nested IsValueMessage (map member) (plain_parts f) f.payload_place bytes parts
 
 pub part_value : (f : FieldSeen) (bytes : List ℕ) (name : List ℕ) (old new : Draft) (r : Result (Option ℕ) Stop) → bytes_of 2 f ≡ Some bytes → ValueRead f.payload_place bytes old new r → PartRead f name name old new r
 part_value f bytes name old new (Ok bad) is h = record {

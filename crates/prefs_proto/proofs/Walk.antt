@@ -1,68 +1,14 @@
--- Walking over a message whose fields give items, and what follows from the relation alone.
-use Rattle.std.proofs.Common.{◌≡◌, ℕ, ◌+◌, ◌<◌, inl, inr, List, [], ◌∷◌, ◌++◌, length, Option, None, Some, Result, Err, refl, sym, ap, subst, ◌∙◌, append_assoc, arith}
-use Rattle.std.proofs.lemmas.List.{append-nil, length-append, append_cancel_right}
+-- Walking over a message whose fields give items.
+use Rattle.std.proofs.Common.{◌≡◌, ℕ, inl, inr, List, [], ◌∷◌, ◌++◌, Option, None, Some, Err, refl, sym, ap, subst, ◌∙◌, append_assoc}
+use Rattle.std.proofs.lemmas.List.{append-nil}
 use Rattle.wire_codec.specs.declared.wire_error.WireError.{WireError}
-use Rattle.wire_codec.specs.Fields.{FieldSeen, IsField, Fields, none, more}
+use Rattle.wire_codec.specs.Fields.{FieldSeen, IsField}
 use Rattle.wire_codec.specs.Faults.{FieldFault}
 use Rattle.wire_codec.specs.Reader.{ReaderSeen, TakesField, IsAtEnd, Next, HasRead}
-use Rattle.wire_codec.proofs.Unique.{field_once, field_some, fields_once, fields_not_fault}
 use Rattle.wire_codec.proofs.Walk.{has_read_none, has_read_more, has_read_all}
-use Rattle.prefs_proto.specs.Message.{Gathers, Message, MessageFault, FaultInside, Nested, FaultIn}
-
--- ---- fields that begin bytes
-
-fields_none : {at : ℕ} {bytes : List ℕ} → Fields at bytes [] → bytes ≡ []
-fields_none none = refl
-
--- Where fields and one more begin the bytes, they begin the bytes' fields.
-fields_front : (xs ys : List FieldSeen) (f : FieldSeen) (at : ℕ) (bytes before text behind : List ℕ) → Fields at bytes xs → Fields at before ys → IsField (at + length before) text f → bytes ≡ before ++ (text ++ behind) → (zs : List FieldSeen) × (xs ≡ ys ++ f ∷ zs)
-fields_front [] ys f at bytes before text behind x y is parts =
-    absurd (omega (arith, field_some is, ap length (sym (fields_none x) ∙ parts), length-append before (text ++ behind), length-append text behind))
-fields_front (g ∷ xs) [] f at bytes before text behind (more front rest split p x) none is parts =
-    let start : at + 0 ≡ at = omega arith in
-    let one = field_once p (subst (λ (k : ℕ). IsField k text f) start is) (sym split ∙ parts) in
-    (xs, ap (λ (h : FieldSeen). h ∷ xs) one.0)
-fields_front (g ∷ xs) (h ∷ ys) f at bytes before text behind (more front rest split p x) (more front' rest' split' q y) is parts =
-    let whole : front ++ rest ≡ front' ++ (rest' ++ (text ++ behind)) = sym split ∙ parts ∙ ap (λ (t : List ℕ). t ++ (text ++ behind)) split' ∙ append_assoc front' rest' (text ++ behind) in
-    let one = field_once p q whole in
-    let fronts : front ≡ front' = append_cancel_right front front' rest (whole ∙ ap (λ (t : List ℕ). front' ++ t) (sym one.1)) in
-    let moved : Fields (at + length front') rest xs = subst (λ (t : List ℕ). Fields (at + length t) rest xs) fronts x in
-    let place : at + length before ≡ at + length front' + length rest' = omega (arith, ap length split', length-append front' rest') in
-    let found = fields_front xs ys f (at + length front') rest rest' text behind moved y (subst (λ (k : ℕ). IsField k text f) place is) one.1 in
-    (found.0, ap (λ (k : FieldSeen). k ∷ xs) one.0 ∙ ap (λ (t : List FieldSeen). h ∷ t) found.1)
+use Rattle.prefs_proto.specs.Message.{Gathers, Message, MessageFault}
 
 module _ {X : Type 0} (Gives : FieldSeen → List X → Type 0) where
-  -- ---- one reading
-
-  gathers_once : ((f : FieldSeen) (xs ys : List X) → Gives f xs → Gives f ys → xs ≡ ys) → (fields : List FieldSeen) (xs ys : List X) → Gathers Gives fields xs → Gathers Gives fields ys → xs ≡ ys
-  gathers_once once [] xs ys p q = p ∙ sym q
-  gathers_once once (f ∷ fields) xs ys p q =
-      p.2 ∙ ap (λ (a : List X). a ++ p.1) (once f p.0 q.0 p.3 q.3) ∙ ap (λ (b : List X). q.0 ++ b) (gathers_once once fields p.1 q.1 p.4 q.4) ∙ sym q.2
-
-  pub message_once : ((f : FieldSeen) (xs ys : List X) → Gives f xs → Gives f ys → xs ≡ ys) → (at : ℕ) (bytes : List ℕ) (xs ys : List X) → Message Gives at bytes xs → Message Gives at bytes ys → xs ≡ ys
-  message_once once at bytes xs ys m n =
-      let same = fields_once n.fields m.fields n.are_fields m.are_fields refl in
-      gathers_once once m.fields xs ys m.gathered (subst (λ (fields : List FieldSeen). Gathers Gives fields ys) same n.gathered)
-
-  -- ---- a message has no fault
-
-  gathers_gives : (fields : List FieldSeen) (f : FieldSeen) (behind : List FieldSeen) (xs : List X) → Gathers Gives (fields ++ f ∷ behind) xs → (ys : List X) × Gives f ys
-  gathers_gives [] f behind xs p = (p.0, p.3)
-  gathers_gives (first ∷ fields) f behind xs p = gathers_gives fields f behind p.1 p.4
-
-  module _ (IsFaulty : FieldSeen → WireError → Type 0) where
-    pub message_not_fault : ((f : FieldSeen) (xs : List X) (e : WireError) → Gives f xs → IsFaulty f e → ⊥) → (at : ℕ) (bytes : List ℕ) (xs : List X) (e : WireError) → Message Gives at bytes xs → MessageFault Gives IsFaulty at bytes e → ⊥
-    message_not_fault apart at bytes xs e m h =
-        elim h.fault [
-          | inl fault ↦ fields_not_fault m.fields h.read.fields m.are_fields h.read.are_fields h.parts fault
-          | inr inside ↦
-              let front = fields_front m.fields h.read.fields inside.f at bytes h.before inside.text inside.behind m.are_fields h.read.are_fields inside.is_field (h.parts ∙ ap (λ (t : List ℕ). h.before ++ t) inside.parts) in
-              let given = gathers_gives h.read.fields inside.f front.0 xs (subst (λ (fields : List FieldSeen). Gathers Gives fields xs) front.1 m.gathered) in
-              apart inside.f given.0 e given.1 inside.fault
-        ]
-
-  -- ---- the loop
-
   -- the reader has passed fields of the message that give these items
   pub record Walk (at : ℕ) (message : List ℕ) (reader : ReaderSeen) (items : List X) : Type 0 where
     pub fields : List FieldSeen
@@ -121,14 +67,3 @@ module _ {X : Type 0} (Gives : FieldSeen → List X → Type 0) where
         fault = fault;
       });
     }
-
--- ---- messages in messages
-
-module _ {X Y : Type 0} (IsInner : ℕ → List ℕ → List Y → Type 0) (wrap : List Y → List X) (plain : List X) where
-  pub nested_once : ((at : ℕ) (bytes : List ℕ) (xs ys : List Y) → IsInner at bytes xs → IsInner at bytes ys → xs ≡ ys) → (place : ℕ) (bytes : Option (List ℕ)) (xs ys : List X) → Nested IsInner wrap plain place bytes xs → Nested IsInner wrap plain place bytes ys → xs ≡ ys
-  nested_once once place None xs ys p q = p ∙ sym q
-  nested_once once place (Some bytes) xs ys p q = p.2 ∙ ap wrap (once place bytes p.0 q.0 p.1 q.1) ∙ sym q.2
-
-  pub nested_not_fault : (IsFault : ℕ → List ℕ → WireError → Type 0) → ((at : ℕ) (bytes : List ℕ) (xs : List Y) (e : WireError) → IsInner at bytes xs → IsFault at bytes e → ⊥) → (place : ℕ) (bytes : Option (List ℕ)) (xs : List X) (e : WireError) → Nested IsInner wrap plain place bytes xs → FaultIn IsFault place bytes e → ⊥
-  nested_not_fault IsFault apart place None xs e p fault = fault
-  nested_not_fault IsFault apart place (Some bytes) xs e p fault = apart place bytes p.0 e p.1 fault

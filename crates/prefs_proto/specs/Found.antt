@@ -1,7 +1,6 @@
 -- What each part of the reading answers.
 use Rattle.std.specs.Prelude.{ℕ, ◌≡◌, List, [], ◌∷◌, ◌++◌, map, reverse, Option, None, Some, Result, Ok, Err}
 use Rattle.std.specs.List.{flat_map}
-use Rattle.wire_codec.specs.declared.wire_error.WireError.{WireError}
 use Rattle.prefs_model.specs.declared.pref_entry.PrefEntry.{PrefEntry}
 use Rattle.prefs_model.specs.declared.pref_pair.PrefPair.{PrefPair}
 use Rattle.prefs_model.specs.declared.pref_value.PrefValue.{PrefValue}

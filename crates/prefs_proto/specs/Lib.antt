@@ -2,8 +2,8 @@ pub mod Encoded
 pub mod Entry
 pub mod FieldText
 pub mod Found
+pub mod Laws
 pub mod Layout
 pub mod Message
 pub mod Reads
 pub mod ValueText
-pub mod Varint

@@ -1,5 +1,5 @@
 -- The map that a file reads as, and why it reads as none.
-use Rattle.std.specs.Prelude.{ℕ, ◌≡◌, List, [], ◌∷◌, ◌++◌, length, min, not, nat_lt, reverse, Bool, Option, None, Some, if◌then◌else◌}
+use Rattle.std.specs.Prelude.{ℕ, ◌≡◌, ◌≢◌, List, [], ◌∷◌, length, min, not, nat_lt, reverse, Bool, Option, None, Some, if◌then◌else◌}
 use Rattle.std.specs.Option.{option_map}
 use Rattle.std.specs.List.{flat_map}
 use Rattle.std.specs.Str.{is_utf8}
@@ -99,3 +99,8 @@ Detail bytes (NotUtf8 place) = IsNotUtf8 bytes place
 Detail bytes (ValueNotSet name) = IsValueNotSet bytes name
 Detail bytes (KeyTooLong place) = IsKeyTooLong bytes place
 Detail bytes NoMemory = Unit {0}
+
+-- The bytes are refused so, and not for want of memory, which says nothing of them.
+pub record IsRefusal (bytes : List ℕ) (e : DecodeError) : Type 0 where
+  pub detail : Detail bytes e
+  pub not_memory : e ≢ NoMemory

@@ -3,9 +3,9 @@
 ghost use Rattle.std.specs.Prelude.{◌≡◌, ◌<◌, ◌^◌, ℕ, List, length};
 ghost use Rattle.prefs_model.specs.declared.pref_pair.PrefPair.{PrefPair};
 ghost use Rattle.prefs_model.specs.Map.{IsMap};
-ghost use Rattle.prefs_proto.specs.Varint.{varint, IsVarint};
 ghost use Rattle.prefs_proto.specs.Encoded.{encoded};
-ghost use Rattle.prefs_proto.specs.Reads.{Reads};
+ghost use Rattle.prefs_proto.specs.Reads.{Reads, IsRefusal};
+ghost use Rattle.prefs_proto.specs.declared.decode_error.DecodeError.{DecodeError};
 
 /// Bytes are read as at most one map.
 pub fn one_map_read()
@@ -22,7 +22,8 @@ pub fn map_is_read()
     ensures { (bytes : List ℕ) (pairs : List PrefPair) → Reads bytes pairs → IsMap pairs }
 {}
 
-/// The varints that are written are the shortest ones of the encoding guide.
-pub fn shortest_varint()
-    ensures { (n : ℕ) → n < 2 ^ 64 → IsVarint (varint n) n }
+/// Bytes are refused in one way at most, and not at all where they read as a map.
+pub fn one_refusal()
+    ensures same { (bytes : List ℕ) (d e : DecodeError) → IsRefusal bytes d → IsRefusal bytes e → d ≡ e }
+    ensures no_map { (bytes : List ℕ) (e : DecodeError) (pairs : List PrefPair) → IsRefusal bytes e → Reads bytes pairs → ⊥ }
 {}

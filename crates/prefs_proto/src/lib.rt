@@ -21,10 +21,9 @@ mod set;
 mod stop;
 mod tag;
 mod value;
-mod varint;
 
 pub use decode_error::DecodeError;
-pub use laws::{map_is_read, one_map_read, shortest_varint, written_is_read};
+pub use laws::{map_is_read, one_map_read, one_refusal, written_is_read};
 pub use prefs_codec::PrefsCodec;
 
 #[cfg(test)]

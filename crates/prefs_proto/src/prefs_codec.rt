@@ -1,9 +1,10 @@
-ghost use Rattle.std.specs.Prelude.{◌≡◌, ◌-◌, ◌^◌, List, min, length, IfOk, MatchResult};
-ghost use Rattle.store_traits.specs.Decoded.{MatchDecoded};
-ghost use Rattle.prefs_model.specs.declared.pref_pair.PrefPair.{PrefPair};
+ghost use Rattle.std.specs.Prelude.{[], MatchResult};
+ghost use Rattle.prefs_model.specs.Map.{IsMap};
 ghost use Rattle.prefs_proto.specs.Encoded.{encoded};
 ghost use Rattle.prefs_proto.specs.Reads.{Reads, Detail};
 ghost use Rattle.prefs_proto.specs.Found.{ValuesSettled};
+ghost use Rattle.prefs_proto.specs.Laws.OneReading.{reads_once};
+ghost use Rattle.prefs_proto.specs.Laws.Written.{written_reads};
 
 use crate::decode_error::DecodeError;
 use crate::map_text::{text_len, text_of};
@@ -11,7 +12,7 @@ use crate::read_map::{MapFound, read_map};
 use crate::stop::Stop;
 use prefs_model::{Entries, PrefEntry, PrefMap};
 use std::alloc::{AllocError, Global};
-use store_traits::{Decoded, FileBytes};
+use store_traits::{Codec, Decoded, FileBytes};
 
 /// Reads and writes a map of settings as the message `PreferenceMap` of preferences.proto.
 #[derive(Clone, Copy, Debug, PartialEq, Eq)]
@@ -37,11 +38,30 @@ impl PrefsCodec {
         }
         settle(alloc, entries)
     }
+}
 
-    /// The map that the bytes read as; corrupt exactly where they read as none.
-    pub fn decode(&self, alloc: Global, bytes: &[u8]) -> Result<Decoded<PrefMap>, AllocError>
-        ensures { IfOk result (λ decoded. MatchDecoded decoded (Reads bytes.now) ((m : List PrefPair) → Reads bytes.now m → ⊥)) }
-    {
+impl Codec for PrefsCodec {
+    type Value = PrefMap;
+
+    ghost is_value = { λ _. IsMap };
+
+    ghost reads = { λ _. Reads };
+
+    ghost encoded = { λ _. encoded };
+
+    ghost default_of = { λ _. [] };
+
+    ghost read_back = { λ _. written_reads };
+
+    ghost read_once = { λ _. reads_once };
+
+    ghost read_known = { λ _ bytes pairs read. read.map };
+
+    fn known(&self, value: &PrefMap) {
+        let _ = value.pairs();
+    }
+
+    fn decode(&self, alloc: Global, bytes: &[u8]) -> Result<Decoded<PrefMap>, AllocError> {
         match self.decode_detail(alloc, bytes) {
             Ok(map) => Ok(Decoded::Good(map)),
             Err(e) => {
@@ -54,18 +74,25 @@ impl PrefsCodec {
         }
     }
 
-    /// The one text of the map.
-    pub fn encode(&self, alloc: Global, value: &PrefMap) -> Result<FileBytes, AllocError>
-        ensures { IfOk result (λ bytes. bytes ≡ encoded value.now) }
-    {
+    fn encode(&self, alloc: Global, value: &PrefMap) -> Result<FileBytes, AllocError> {
         Ok(FileBytes::new(text_of(alloc, value.pairs())?))
     }
 
-    /// How many bytes that text has, at most 2^64 - 1. It takes no memory.
-    pub fn encoded_len(&self, value: &PrefMap) -> u64
-        ensures { result ≡ min (length (encoded value.now)) (2 ^ 64 - 1) }
-    {
+    fn encoded_len(&self, value: &PrefMap) -> u64 {
         text_len(value.pairs())
+    }
+
+    /// An absent file is the empty map.
+    fn default_value(&self, alloc: Global) -> Result<PrefMap, AllocError> {
+        Ok(PrefMap::new(alloc))
+    }
+
+    fn equal(&self, a: &PrefMap, b: &PrefMap) -> bool {
+        a.equal(b)
+    }
+
+    fn copy(&self, alloc: Global, value: &PrefMap) -> Result<PrefMap, AllocError> {
+        value.try_clone(alloc)
     }
 }
 

@@ -1,15 +1,15 @@
 ghost use Rattle.std.specs.Prelude.{◌≡◌, ◌∷◌, ◌++◌, OnOk};
 ghost use Rattle.std.specs.Int.{w64, cast_unsigned};
 ghost use Rattle.prefs_proto.specs.FieldText.{count_of};
-ghost use Rattle.prefs_proto.specs.Varint.{varint};
+ghost use Rattle.wire_codec.specs.Text.{varint_text};
 ghost use Rattle.prefs_proto.specs.ValueText.{value_text};
 
 use crate::field::{field_len, put_field, put_head};
 use crate::set::{put_texts, texts_len};
 use crate::tag;
-use crate::varint::{put_varint, varint_len};
 use prefs_model::PrefValue;
 use std::alloc::AllocError;
+use wire_codec::{put_varint, varint_len};
 
 /// How many bytes the text of a value has, at most 2^64 - 1.
 #[tactic(auto, unfolding(crate::specs::ValueText::value_text))]
@@ -54,7 +54,7 @@ pub fn put_value(out: &mut Vec<u8>, value: &PrefValue) -> Result<(), AllocError>
 
 /// Writes a tag and the varint of the 64 bits in two's complement.
 fn put_number(out: &mut Vec<u8>, tag: u8, number: i64) -> Result<(), AllocError>
-    ensures { OnOk result (out.new.items ≡ out.old.items ++ tag ∷ varint (cast_unsigned w64 number)) }
+    ensures { OnOk result (out.new.items ≡ out.old.items ++ tag ∷ varint_text (cast_unsigned w64 number)) }
 {
     out.push(tag)?;
     put_varint(out, number.cast_unsigned())

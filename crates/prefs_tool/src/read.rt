@@ -6,7 +6,7 @@ use folder_disk::{Folder, MainRead, ReadMainError};
 use prefs_model::PrefMap;
 use prefs_proto::PrefsCodec;
 use std::alloc::Global;
-use store_traits::Decoded;
+use store_traits::{Codec, Decoded};
 
 /// How many bytes a file may have.
 pub(crate) const FILE_LIMIT: u64 = 1048576;

@@ -60,6 +60,17 @@ base_128_length (suc enough) n =
       | inr le ↦ rw (more_bytes enough n le) (omega (arith, base_128_length enough (n / 128)))
     ]
 
+-- bytes that are not needed change nothing
+base_128_enough : (enough n : ℕ) → 1 ≤ enough → n < 128 ^ enough → base_128 (suc enough) n ≡ base_128 enough n
+base_128_enough zero n some fits = absurd (omega arith)
+base_128_enough (suc enough) n some fits =
+    elim (cases_lt n 128) [
+      | inl lt ↦ one_byte (suc enough) n lt ∙ sym (one_byte enough n lt)
+      | inr le ↦ more_bytes (suc enough) n le
+          ∙ ap (λ (tail : List ℕ). (n % 128 + 128) ∷ tail) (base_128_enough enough (n / 128) (omega (arith, high_some (suc enough) n fits le)) (high_fits enough n fits))
+          ∙ sym (more_bytes enough n le)
+    ]
+
 ten_are_enough : (n : ℕ) → n < 2 ^ 64 → n < 128 ^ 10
 ten_are_enough n fits = omega arith
 
@@ -76,6 +87,19 @@ varint_text_is n fits = record {
   short = base_128_length 10 n;
   low = omega arith;
 }
+
+-- ---- how long it is
+
+pub varint_text_within : (n : ℕ) → length (varint_text n) ≤ 10
+varint_text_within n = base_128_length 10 n
+
+pub length_last : (n : ℕ) → n < 128 → length (varint_text n) ≡ 1
+length_last n lt = ap length (one_byte 9 n lt)
+
+pub length_more : (n : ℕ) → n < 2 ^ 64 → 128 ≤ n → length (varint_text n) ≡ 1 + length (varint_text (n / 128))
+length_more n fits le =
+    let same : base_128 10 (n / 128) ≡ base_128 9 (n / 128) = base_128_enough 9 (n / 128) (omega arith) (high_fits 9 n (ten_are_enough n fits)) in
+    omega (arith, ap length (more_bytes 9 n le), ap length same)
 
 -- ---- the loop that writes it
 

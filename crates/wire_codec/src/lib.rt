@@ -12,6 +12,7 @@ mod open_groups;
 mod payload;
 mod reader;
 mod tag;
+mod varint;
 mod wire_error;
 mod wire_type;
 mod writer;
@@ -25,6 +26,7 @@ pub use laws::{
 pub use message::count_fields;
 pub use payload::Payload;
 pub use reader::WireReader;
+pub use varint::{put_varint, varint_len};
 pub use wire_error::WireError;
 pub use writer::WireWriter;
 

@@ -2,9 +2,10 @@
 
 ghost use Rattle.std.specs.Prelude.{◌≡◌, ◌≤◌, ◌<◌, ◌^◌, ◌++◌, OnOk, OnErr};
 ghost use Rattle.wire_codec.specs.Payload.{payload_seen};
-ghost use Rattle.wire_codec.specs.Text.{Extends, IsWritable, varint_text, field_text};
+ghost use Rattle.wire_codec.specs.Text.{Extends, IsWritable, field_text};
 
 use crate::payload::Payload;
+use crate::varint::put_varint;
 use std::alloc::AllocError;
 
 /// Writes a field that is no group.
@@ -39,20 +40,6 @@ pub(crate) fn put_field(
             put(out, &value.to_le_bytes())
         }
     }
-}
-
-/// Writes the shortest varint.
-fn put_varint(out: &mut Vec<u8>, value: u64) -> Result<(), AllocError>
-    ensures ok { OnOk result (out.new.items ≡ out.old.items ++ varint_text value) }
-    ensures err { OnErr result (Extends out.old.items out.new.items) }
-{
-    let mut rest = value;
-    while rest >= 128 {
-        out.push((rest % 128) as u8 + 128)?;
-        rest /= 128;
-    }
-    out.push(rest as u8)?;
-    Ok(())
 }
 
 fn put(out: &mut Vec<u8>, bytes: &[u8]) -> Result<(), AllocError>

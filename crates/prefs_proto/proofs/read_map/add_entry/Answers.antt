@@ -1,4 +1,4 @@
-use Rattle.std.proofs.Common.{◌≡◌, ◌<◌, ◌≤◌, ℕ, List, length, refl, ap, sym, ◌∙◌, arith}
+use Rattle.std.proofs.Common.{◌≡◌, ◌<◌, ◌≤◌, length, refl, ap, ◌∙◌, arith}
 use Rattle.wire_codec.specs.Fields.{field_seen}
 use Rattle.prefs_proto.specs.declared.read_map.MapFound.{MapFound}
 use Rattle.prefs_proto.specs.Found.{settled}

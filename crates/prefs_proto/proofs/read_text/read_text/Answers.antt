@@ -1,6 +1,6 @@
-use Rattle.std.proofs.Common.{◌≡◌, sym, ◌∙◌, ap}
-use Rattle.std.specs.Prelude.{string_bytes}
-use Rattle.prefs_proto.proofs.Steps.{good_text, no_text}
+use Rattle.std.proofs.Common.{◌≡◌}
+use Rattle.prefs_proto.specs.Laws.Places.{good_text}
+use Rattle.prefs_proto.proofs.Steps.{no_text}
 use Rattle.prefs_proto.proofs.read_text.read_text.Goals as goal
 
 pub returns-in_default : goal.returns-in_default

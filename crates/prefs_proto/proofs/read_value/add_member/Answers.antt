@@ -1,4 +1,3 @@
-use Rattle.std.proofs.Common.{◌≡◌, Some, sym, ◌∙◌}
 use Rattle.wire_codec.specs.Fields.{field_seen}
 use Rattle.prefs_proto.proofs.Steps.{member_set, member_text, member_no_text, member_scalar}
 use Rattle.prefs_proto.proofs.read_value.add_member.Goals as goal

@@ -1,5 +1,4 @@
-use Rattle.std.proofs.Common.{◌≡◌, ◌∙◌, ap, sym, length, List, ℕ, arith}
-use Rattle.prefs_model.specs.declared.pref_value.PrefValue.{PrefValue}
+use Rattle.std.proofs.Common.{◌∙◌, ap, length, List, ℕ, arith}
 use Rattle.prefs_proto.specs.FieldText.{field, count_of}
 use Rattle.prefs_proto.specs.ValueText.{value_text, set_text}
 use Rattle.prefs_proto.proofs.Counts.{count-field}

@@ -1,9 +1,9 @@
 use Rattle.std.proofs.Common.{arith}
 use Rattle.wire_codec.proofs.Texts.{in_text_none, in_text_more, in_text_last}
-use Rattle.wire_codec.proofs.writing.put_varint.Goals as goal
+use Rattle.wire_codec.proofs.varint.put_varint.Goals as goal
 
 pub loop-rest-init : goal.loop-rest-init
-loop-rest-init c = in_text_none c.args.out.now.items c.args.value (omega arith)
+loop-rest-init c = in_text_none c.args.out.now.items c.args.number (omega arith)
 
 pub loop-rest-preserved : goal.loop-rest-preserved
 loop-rest-preserved c = in_text_more c.loop-rest.invariant c.loop-rest-test.true c.in_ok-push.ensures.items

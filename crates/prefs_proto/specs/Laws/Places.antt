@@ -1,8 +1,11 @@
 -- Least places, and what may not stand in joined lists.
-use Rattle.std.proofs.Common.{◌≡◌, ℕ, Bool, true, false, min, not, List, [], ◌∷◌, ◌++◌, map, Option, None, Some, refl, sym, ap, ◌∙◌, arith, if◌then◌else◌}
+use Rattle.std.proofs.Common.{◌≡◌, ℕ, Bool, List, [], ◌∷◌, ◌++◌, map, Option, None, Some, refl, sym, ap, ◌∙◌, arith, if◌then◌else◌}
 use Rattle.std.specs.List.{flat_map}
 use Rattle.std.proofs.lemmas.Grind.{flat_map-append}
-use Rattle.prefs_proto.specs.Layout.{TextSeen, MemberSeen, PartSeen, key, member, EntrySeen}
+use Rattle.std.specs.Str.{IsUtf8}
+use Rattle.std.proofs.lemmas.Str.{is_utf8-from_IsUtf8}
+use Rattle.prefs_proto.specs.Found.{one_text}
+use Rattle.prefs_proto.specs.Layout.{TextSeen, MemberSeen, member, EntrySeen}
 use Rattle.prefs_proto.specs.Reads.{least, least_place, is_no_text, is_too_long, bad_text, long_key, texts_of_member, texts_of_part}
 
 least_assoc : (a b c : Option ℕ) → least (least a b) c ≡ least a (least b c)
@@ -41,3 +44,6 @@ bad_among-one texts_in x = bad_text-append (texts_in x) [] ∙ least_none (bad_t
 pub texts_of_members : (members : List MemberSeen) → flat_map texts_of_part (map member members) ≡ flat_map texts_of_member members
 texts_of_members [] = refl
 texts_of_members (m ∷ members) = ap (λ (t : List TextSeen). texts_of_member m ++ t) (texts_of_members members)
+
+pub good_text : (place : ℕ) (bytes : List ℕ) → IsUtf8 bytes → bad_text (one_text place bytes) ≡ None
+good_text place bytes is = rw (is_utf8-from_IsUtf8 bytes is) refl
