@@ -118,6 +118,11 @@ module _ {V T : Type 0} where
   unfolding main_of text_or
   main_of-change after encoded base main list e v h is = rw (edition_of-change list e h, is) (shown (edition_of list) main (Some (encoded v)))
 
+  pub weight_of-append : (transform_weight : T → ℕ) (value_weight : V → ℕ) (xs ys : List (EntrySeen V T))
+      → weight_of transform_weight value_weight (xs ++ ys) ≡ weight_of transform_weight value_weight xs + weight_of transform_weight value_weight ys
+  unfolding weight_of
+  weight_of-append transform_weight value_weight xs ys = sum_by-append _ xs ys
+
   pub weight_of-push : (transform_weight : T → ℕ) (value_weight : V → ℕ) (list : List (EntrySeen V T)) (e : EntrySeen V T)
       → weight_of transform_weight value_weight (list ++ e ∷ []) ≡ weight_of transform_weight value_weight list + kind_weight transform_weight value_weight e.kind
   unfolding weight_of

@@ -40,7 +40,10 @@ pub fn raises_go_on<V, T>()
 
 /// Each entry adds its own weight.
 pub fn weight_goes_on<V, T>()
-    ensures { (transform_weight : T → ℕ) (value_weight : V → ℕ) (list : List (EntrySeen V T)) (e : EntrySeen V T)
+    ensures front { (transform_weight : T → ℕ) (value_weight : V → ℕ) (front back : List (EntrySeen V T))
+        → weight_of transform_weight value_weight (front ++ back)
+        ≡ weight_of transform_weight value_weight front + weight_of transform_weight value_weight back }
+    ensures entry { (transform_weight : T → ℕ) (value_weight : V → ℕ) (list : List (EntrySeen V T)) (e : EntrySeen V T)
         → weight_of transform_weight value_weight (list ++ e ∷ [])
         ≡ weight_of transform_weight value_weight list + kind_weight transform_weight value_weight e.kind }
 {}
@@ -65,6 +68,7 @@ pub fn clearing_goes_on<V, T>()
     ensures replace { (call : CallId) (so_far : Bool) (list : List (EntrySeen V T)) (e : EntrySeen V T)
         → ends_in_replace call so_far (list ++ e ∷ []) ≡ (if is_call call e.who then is_replace e.kind else ends_in_replace call so_far list) }
     ensures synced { (call : CallId) (list : List (EntrySeen V T)) (e : EntrySeen V T) → HasOwnSynced call (list ++ e ∷ []) ↔ (HasOwnSynced call list ⊎ IsOwnSynced call list e) }
+    ensures front { (front back : List (EntrySeen V T)) → HasClearingFault front → HasClearingFault (front ++ back) }
     ensures fault { (list : List (EntrySeen V T)) (e : EntrySeen V T) → HasClearingFault (list ++ e ∷ []) ↔ (HasClearingFault list ⊎ IsClearingFault list e) }
 {}
 
