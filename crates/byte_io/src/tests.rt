@@ -111,9 +111,9 @@ fn a_writer_that_takes_nothing_is_a_fault(rt: HostRuntime) {
     assert_eq!(rt; StdSink::new(Stubborn).write(b""), Ok(0));
 }
 
-fn may_move<T: Send>() {}
+fn crosses_threads<T: Send>() {}
 
 #[test]
 fn the_devices_in_memory_cross_threads() {
-    may_move::<(MemSource, NeverFails, MemSink)>();
+    crosses_threads::<(MemSource, NeverFails, MemSink)>();
 }

@@ -35,9 +35,9 @@ fn a_released_lock_is_free(rt: HostRuntime) {
     assert!(rt; table.try_lock(call(2, 2, 1)));
 }
 
-fn may_be_shared<T: Send + Sync>() {}
+fn is_shared_by_threads<T: Send + Sync>() {}
 
 #[test]
 fn a_lock_crosses_threads() {
-    may_be_shared::<LockTable>();
+    is_shared_by_threads::<LockTable>();
 }

@@ -49,8 +49,6 @@ fn is_absent<F: Folder>(folder: &mut F, alloc: Global) -> bool {
     }
 }
 
-fn needs_send<T: Send + Drop>(_value: T) {}
-
 // A folder with the main file "old", where the call with this number fails.
 fn failing(alloc: Global, call: FolderCall, number: u32) -> Result<MemFolder, AllocError> {
     let main = MainRead::Bytes(FileBytes::new(b"old".to_vec(alloc)?));
@@ -64,7 +62,6 @@ fn strikes_once(alloc: Global, call: FolderCall, main: &[u8]) -> Result<bool, Al
     let is_kept = folder.main() == Some(main);
     let second = after_write(&mut folder, alloc, b"next");
     let is_next = folder.main() == Some(b"next".as_slice());
-    needs_send(folder);
     Ok(first == (false, 1) && is_kept && second == (true, 1) && is_next)
 }
 
@@ -130,4 +127,11 @@ fn writes_and_reads_a_real_folder(rt: HostRuntime) -> Result<(), Fail> {
     assert_eq!(rt; folder.faults(), 1);
     fs::remove_dir_all(&rt, REAL.folder)?;
     Ok(())
+}
+
+fn crosses_threads<T: Send>() {}
+
+#[test]
+fn folders_cross_threads() {
+    crosses_threads::<(MemFolder, StdFolder<HostRuntime>)>();
 }

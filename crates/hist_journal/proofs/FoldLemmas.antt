@@ -35,15 +35,15 @@ module _ {V T : Type 0} where
   unfolding edition_of
   edition_of-append xs ys = sum_by-append _ xs ys
 
-  pub edition_of-change : (list : List (EntrySeen V T)) (e : EntrySeen V T) → is_change e.kind ≡ true → edition_of (list ++ e ∷ []) ≡ edition_of list + 1
+  pub edition_of-push : (list : List (EntrySeen V T)) (e : EntrySeen V T) → edition_of (list ++ e ∷ []) ≡ edition_of list + (if is_change e.kind then 1 else 0)
   unfolding edition_of
-  edition_of-change list e h = counted (λ (x : EntrySeen V T). is_change x.kind) list e ∙ ap (λ b. count_by (λ (x : EntrySeen V T). is_change x.kind) list + cond b 1 0) h
+  edition_of-push list e = counted (λ (x : EntrySeen V T). is_change x.kind) list e
+
+  pub edition_of-change : (list : List (EntrySeen V T)) (e : EntrySeen V T) → is_change e.kind ≡ true → edition_of (list ++ e ∷ []) ≡ edition_of list + 1
+  edition_of-change list e h = edition_of-push list e ∙ ap (λ b. edition_of list + cond b 1 0) h
 
   pub edition_of-other : (list : List (EntrySeen V T)) (e : EntrySeen V T) → is_change e.kind ≡ false → edition_of (list ++ e ∷ []) ≡ edition_of list
-  unfolding edition_of
-  edition_of-other list e h =
-      counted (λ (x : EntrySeen V T). is_change x.kind) list e
-      ∙ (ap (λ b. count_by (λ (x : EntrySeen V T). is_change x.kind) list + cond b 1 0) h ∙ omega arith)
+  edition_of-other list e h = edition_of-push list e ∙ (ap (λ b. edition_of list + cond b 1 0) h ∙ omega arith)
 
   pub edition_of-le : (list : List (EntrySeen V T)) → edition_of list ≤ length list
   unfolding edition_of
@@ -53,15 +53,15 @@ module _ {V T : Type 0} where
   unfolding raises_of
   raises_of-append xs ys = sum_by-append _ xs ys
 
-  pub raises_of-raise : (list : List (EntrySeen V T)) (e : EntrySeen V T) → is_raise e.kind ≡ true → raises_of (list ++ e ∷ []) ≡ raises_of list + 1
+  pub raises_of-push : (list : List (EntrySeen V T)) (e : EntrySeen V T) → raises_of (list ++ e ∷ []) ≡ raises_of list + (if is_raise e.kind then 1 else 0)
   unfolding raises_of
-  raises_of-raise list e h = counted (λ (x : EntrySeen V T). is_raise x.kind) list e ∙ ap (λ b. count_by (λ (x : EntrySeen V T). is_raise x.kind) list + cond b 1 0) h
+  raises_of-push list e = counted (λ (x : EntrySeen V T). is_raise x.kind) list e
+
+  pub raises_of-raise : (list : List (EntrySeen V T)) (e : EntrySeen V T) → is_raise e.kind ≡ true → raises_of (list ++ e ∷ []) ≡ raises_of list + 1
+  raises_of-raise list e h = raises_of-push list e ∙ ap (λ b. raises_of list + cond b 1 0) h
 
   pub raises_of-other : (list : List (EntrySeen V T)) (e : EntrySeen V T) → is_raise e.kind ≡ false → raises_of (list ++ e ∷ []) ≡ raises_of list
-  unfolding raises_of
-  raises_of-other list e h =
-      counted (λ (x : EntrySeen V T). is_raise x.kind) list e
-      ∙ (ap (λ b. count_by (λ (x : EntrySeen V T). is_raise x.kind) list + cond b 1 0) h ∙ omega arith)
+  raises_of-other list e h = raises_of-push list e ∙ (ap (λ b. raises_of list + cond b 1 0) h ∙ omega arith)
 
   pub raises_of-le : (list : List (EntrySeen V T)) → raises_of list ≤ length list
   unfolding raises_of
@@ -103,16 +103,25 @@ module _ {V T : Type 0} where
   value_after-other after value (Death node) h = refl
   value_after-other after value (Restart node) h = refl
 
+  pub value_of-other : (after : T → V → Applied V) (base : BaseSeen V) (list : List (EntrySeen V T)) (e : EntrySeen V T)
+      → is_change e.kind ≡ false → value_of after base (list ++ e ∷ []) ≡ value_of after base list
+  value_of-other after base list e h = value_of-push after base list e ∙ value_after-other after (value_of after base list) e.kind h
+
   pub main_of-other : (after : T → V → Applied V) (encoded : V → List ℕ) (base : BaseSeen V) (main : Option (List ℕ)) (list : List (EntrySeen V T)) (e : EntrySeen V T)
       → is_change e.kind ≡ false → main_of after encoded base main (list ++ e ∷ []) ≡ main_of after encoded base main list
   unfolding main_of
-  main_of-other after encoded base main list e h = rw (edition_of-other list e h, value_of-push after base list e, value_after-other after (value_of after base list) e.kind h)
+  main_of-other after encoded base main list e h = rw (edition_of-other list e h, value_of-other after base list e h)
 
   -- main after a value change is the text of the value
   pub main_of-change : (after : T → V → Applied V) (encoded : V → List ℕ) (base : BaseSeen V) (main : Option (List ℕ)) (list : List (EntrySeen V T)) (e : EntrySeen V T) (v : V)
       → is_change e.kind ≡ true → value_of after base (list ++ e ∷ []) ≡ Held v → main_of after encoded base main (list ++ e ∷ []) ≡ Some (encoded v)
   unfolding main_of text_or
   main_of-change after encoded base main list e v h is = rw (edition_of-change list e h, is) (shown (edition_of list) main (Some (encoded v)))
+
+  pub weight_of-append : (transform_weight : T → ℕ) (value_weight : V → ℕ) (xs ys : List (EntrySeen V T))
+      → weight_of transform_weight value_weight (xs ++ ys) ≡ weight_of transform_weight value_weight xs + weight_of transform_weight value_weight ys
+  unfolding weight_of
+  weight_of-append transform_weight value_weight xs ys = sum_by-append _ xs ys
 
   pub weight_of-push : (transform_weight : T → ℕ) (value_weight : V → ℕ) (list : List (EntrySeen V T)) (e : EntrySeen V T)
       → weight_of transform_weight value_weight (list ++ e ∷ []) ≡ weight_of transform_weight value_weight list + kind_weight transform_weight value_weight e.kind

@@ -4,8 +4,10 @@ use Rattle.std.specs.List.{list_any}
 use Rattle.std.proofs.lemmas.List.Folds.{list_any-append}
 use Rattle.store_traits.specs.declared.ids.CallId.{CallId}
 use Rattle.hist_journal.specs.declared.seen.EntrySeen.{EntrySeen}
-use Rattle.hist_journal.specs.Kinds.{is_raise}
-use Rattle.hist_journal.specs.Quiet.{ends, has_raise, open_raise, pending, still_pending, pending_after}
+use Rattle.hist_journal.specs.declared.seen.KindSeen.{KindSeen}
+use Rattle.hist_journal.specs.declared.seen.KindSeen.TheVariants.{Raise}
+use Rattle.hist_journal.specs.Kinds.{is_call, is_raise, is_change, is_fault, is_death_of}
+use Rattle.hist_journal.specs.Quiet.{Quiet, ends, has_raise, open_raise, pending, still_pending, pending_after}
 
 or_false : (b : Bool) → (b || false) ≡ b
 or_false true = refl
@@ -52,3 +54,19 @@ module _ {V T : Type 0} where
       ap (λ b. cond b (pending (xs ++ e ∷ [])) (open_raise x (xs ++ e ∷ []))) (any_more (λ (y : EntrySeen V T). is_raise y.kind) xs e)
       ∙ (ap (λ p. cond (has_raise xs || is_raise e.kind) p (open_raise x (xs ++ e ∷ []))) (pending-push xs e)
       ∙ last_raise (has_raise xs) (is_raise e.kind) e.who (λ call. ends call e) (pending xs) (open_raise x (xs ++ e ∷ [])) (open_raise x xs) (open_raise-push x xs e))
+
+  pub pending-raise : (list : List (EntrySeen V T)) (e : EntrySeen V T) → is_raise e.kind ≡ true → pending (list ++ e ∷ []) ≡ Some e.who
+  pending-raise list e raises = rw (pending-push list e, raises)
+
+  -- only a Raise ends the quiet
+  pub Quiet-push : (list : List (EntrySeen V T)) (e : EntrySeen V T) → Quiet list → is_raise e.kind ≡ false → Quiet (list ++ e ∷ [])
+  Quiet-push list e quiet other = rw (pending-push list e, other, quiet)
+
+  -- what ends a Raise is none
+  raise_ends_nothing : (call : CallId) (is_own : Bool) (kind : KindSeen V T) → ((is_own && (is_change kind || is_fault kind)) || is_death_of call.node kind) ≡ true → is_raise kind ≡ false
+  raise_ends_nothing call true Raise is = absurd (let no : false ≡ true = is in cc)
+  raise_ends_nothing call false Raise is = absurd (let no : false ≡ true = is in cc)
+  raise_ends_nothing call is_own other is = refl
+
+  pub Quiet-ended : (list : List (EntrySeen V T)) (e : EntrySeen V T) (call : CallId) → pending list ≡ Some call → ends call e ≡ true → Quiet (list ++ e ∷ [])
+  Quiet-ended list e call open_call is = rw (pending-push list e, raise_ends_nothing call (is_call call e.who) e.kind is, open_call, is)

@@ -17,18 +17,27 @@ module _ {V T : Type 0} where
   ends_in_replace call so_far [] = so_far
   ends_in_replace call so_far (e ∷ es) = ends_in_replace call (if is_call call e.who then is_replace e.kind else so_far) es
 
-  -- the list has a Synced of the call that is not the call's next entry after a Replace of it
-  pub record HasOwnSynced (call : CallId) (list : List (EntrySeen V T)) : Type 0 where
+  -- the list has an entry that stands so behind those before it
+  pub record HasEntry (Stands : List (EntrySeen V T) → EntrySeen V T → Type 0) (list : List (EntrySeen V T)) : Type 0 where
     pub before : List (EntrySeen V T)
+    pub entry : EntrySeen V T
     pub behind : List (EntrySeen V T)
-    pub is : list ≡ before ++ record { who = call; kind = Synced } ∷ behind
+    pub is : list ≡ before ++ entry ∷ behind
+    pub stands : Stands before entry
+
+  -- a Synced of the call that is not the call's next entry after a Replace of it
+  pub record IsOwnSynced (call : CallId) (before : List (EntrySeen V T)) (e : EntrySeen V T) : Type 0 where
+    pub is : e ≡ record { who = call; kind = Synced }
     pub other : ends_in_replace call false before ≡ false
 
+  abbrev pub HasOwnSynced : CallId → List (EntrySeen V T) → Type 0
+  HasOwnSynced call list = HasEntry (IsOwnSynced call) list
+
   -- a Fault of the old settings, with such a Synced of its call before it
-  pub record HasClearingFault (list : List (EntrySeen V T)) : Type 0 where
-    pub call : CallId
+  pub record IsClearingFault (before : List (EntrySeen V T)) (e : EntrySeen V T) : Type 0 where
     pub count : ℕ
-    pub before : List (EntrySeen V T)
-    pub behind : List (EntrySeen V T)
-    pub is : list ≡ before ++ record { who = call; kind = Fault Legacy count } ∷ behind
-    pub synced : HasOwnSynced call before
+    pub fault : e.kind ≡ Fault Legacy count
+    pub synced : HasOwnSynced e.who before
+
+  abbrev pub HasClearingFault : List (EntrySeen V T) → Type 0
+  HasClearingFault list = HasEntry IsClearingFault list

@@ -7,6 +7,7 @@ mod base;
 mod bounds;
 mod device;
 mod entry;
+mod fold_laws;
 mod journal;
 mod kind;
 mod listed;
@@ -22,6 +23,10 @@ pub use base::Base;
 pub use bounds::Bounds;
 pub use device::Device;
 pub use entry::Entry;
+pub use fold_laws::{
+    clearing_goes_on, edition_goes_on, main_goes_on, nodes_go_on, pending_goes_on, raises_go_on,
+    value_goes_on, weight_goes_on,
+};
 pub use journal::Journal;
 pub use kind::Kind;
 pub use listed::Listed;

@@ -1,5 +1,9 @@
-//! A journal as its callers use it, `Listed` called through its bound, and that the types may cross threads.
-use crate::{Base, Bounds, Device, Entry, Journal, Kind, Listed, PrefName, ReserveError, Sections};
+//! A journal as its callers use it, `Listed` and the laws called at a type, and that the types cross threads.
+use crate::{
+    Base, Bounds, Device, Entry, Journal, Kind, Listed, PrefName, ReserveError, Sections,
+    clearing_goes_on, edition_goes_on, main_goes_on, nodes_go_on, pending_goes_on, raises_go_on,
+    value_goes_on, weight_goes_on,
+};
 use std::alloc::Global;
 use std::test::Fail;
 use store_traits::{CallId, ClientId, NodeId};
@@ -75,14 +79,23 @@ fn sections_keep_their_names(rt: HostRuntime) -> Result<(), Fail> {
     Ok(())
 }
 
-fn may_move<T: Send>() {}
+#[test]
+fn the_laws_are_those_of_concrete_histories() {
+    value_goes_on::<u64, u8>();
+    edition_goes_on::<u64, u8>();
+    raises_go_on::<u64, u8>();
+    weight_goes_on::<u64, u8>();
+    main_goes_on::<u64, u8>();
+    nodes_go_on::<u64, u8>();
+    clearing_goes_on::<u64, u8>();
+    pending_goes_on::<u64, u8>();
+}
 
-fn may_be_shared<T: Send + Sync>() {}
+fn is_shared_by_threads<T: Send + Sync>() {}
 
 #[test]
 fn histories_cross_threads() {
-    may_move::<Journal<u64, u8>>();
-    may_be_shared::<Journal<u64, u8>>();
-    may_be_shared::<(Entry<u64, u8>, Base<u64>, Bounds)>();
-    may_be_shared::<(Sections, PrefName, Device, ReserveError)>();
+    is_shared_by_threads::<Journal<u64, u8>>();
+    is_shared_by_threads::<(Entry<u64, u8>, Base<u64>, Bounds)>();
+    is_shared_by_threads::<(Sections, PrefName, Device, ReserveError)>();
 }

@@ -133,10 +133,9 @@ fn refusals_have_their_codes_and_texts(rt: HostRuntime) -> Result<(), Fail> {
     Ok(())
 }
 
-fn may_share<T: Send + Sync>() {}
+fn is_shared_by_threads<T: Send + Sync>() {}
 
 #[test]
-fn edits_go_to_other_threads(_: HostRuntime) {
-    may_share::<Edit>();
-    may_share::<EditStep>();
+fn edits_cross_threads() {
+    is_shared_by_threads::<(Edit, EditStep)>();
 }

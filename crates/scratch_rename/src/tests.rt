@@ -51,10 +51,10 @@ fn a_failed_call_hands_the_plan_back(rt: HostRuntime) -> Result<(), Fail> {
     Ok(())
 }
 
-fn may_be_shared<T: Send + Sync>() {}
+fn is_shared_by_threads<T: Send + Sync>() {}
 
 #[test]
 fn plans_cross_threads() {
-    may_be_shared::<(Fresh, Filled, Synced)>();
-    may_be_shared::<(Renamed, Kept)>();
+    is_shared_by_threads::<(Fresh, Filled, Synced)>();
+    is_shared_by_threads::<(Renamed, Kept)>();
 }

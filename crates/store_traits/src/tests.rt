@@ -87,18 +87,18 @@ fn a_word_is_raised(rt: HostRuntime) {
     assert_eq!(rt; raised_twice(&mut PlainWord::new()), 2);
 }
 
-fn may_move<T: Send>() {}
+fn crosses_threads<T: Send>() {}
 
-fn may_be_shared<T: Send + Sync>() {}
+fn is_shared_by_threads<T: Send + Sync>() {}
 
 /// What a call, an answer or the shared state holds may go to another thread.
 #[test]
 fn the_types_cross_threads() {
-    may_be_shared::<(CallId, NodeId, ClientId, Step)>();
-    may_be_shared::<(Failed, UpdateError, ReadError)>();
-    may_be_shared::<FileBytes>();
-    may_be_shared::<Decoded<FileBytes>>();
-    may_be_shared::<Applied<FileBytes>>();
-    may_be_shared::<Given<FileBytes>>();
-    may_move::<PlainWord>();
+    is_shared_by_threads::<(CallId, NodeId, ClientId, Step)>();
+    is_shared_by_threads::<(Failed, UpdateError, ReadError)>();
+    is_shared_by_threads::<FileBytes>();
+    is_shared_by_threads::<Decoded<FileBytes>>();
+    is_shared_by_threads::<Applied<FileBytes>>();
+    is_shared_by_threads::<Given<FileBytes>>();
+    crosses_threads::<PlainWord>();
 }
