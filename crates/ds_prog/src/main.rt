@@ -1,7 +1,9 @@
-//! The program: it takes the words behind its name and the current folder, and ends with the status.
-//! It stands on `prefs_tool`, whose `run_tool` does all the work, and on `folder_disk` for the real folder.
+//! The program: it takes the words behind its name, standard input and output, and the current folder, and ends
+//! with the status. It stands on `prefs_tool`, whose `run_tool` does all the work, on `byte_io` for the real source
+//! and sink, and on `folder_disk` for the real folder.
 #![tactic(auto)]
 
+use byte_io::{StdSink, StdSource};
 use folder_disk::StdFolder;
 use prefs_tool::{Status, run_tool};
 use std::process::ExitCode;
@@ -12,12 +14,22 @@ fn main(rt: HostRuntime) -> ExitCode {
 }
 
 fn run(rt: HostRuntime) -> Status {
-    match words(&rt) {
-        Ok(words) => run_tool(rt.alloc(), &words, &mut StdFolder::new(rt)),
-        // A word that is no text is no word of a command.
-        Err(error) if error.kind() == io::ErrorKind::InvalidData => Status::Words,
-        Err(_) => Status::NoMemory,
-    }
+    let alloc = rt.alloc();
+    let words = match words(&rt) {
+        Ok(words) => words,
+        // A word that is no text is no word of a command, and no more is none.
+        Err(error) if error.kind() == io::ErrorKind::InvalidData => Vec::new(alloc),
+        Err(_) => return Status::NoMemory,
+    };
+    let mut source = StdSource::new(rt.stdin());
+    let mut sink = StdSink::new(rt.stdout());
+    run_tool(
+        alloc,
+        &words,
+        &mut source,
+        &mut sink,
+        &mut StdFolder::new(rt),
+    )
 }
 
 /// The words behind the program's name.

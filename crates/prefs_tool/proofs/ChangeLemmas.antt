@@ -45,24 +45,32 @@ not_read T told step old new before now NoKey light same stops = absurd stops
 pub synced : {T : Type 0} (told : Bool) (step : EditStep) (old middle new : Contents) (before since now : Tally) (pairs after : List PrefPair) (result : Result T ToolError)
     → IsLight step → (IsTrue told → Edits step old.main pairs after) → after ≡ pairs → (IsTrue told → middle ≡ old) → before.count ≤ since.count
     → SyncsMain told middle since result new now → ChangesMain told step old before result new now
-synced told step old middle new before since now pairs after (Ok done) light edits stay same later s = (light, λ is_told. (
-  pairs,
-  after,
-  edits is_told,
-  record {
-    fits = λ differs. absurd (differs stay);
-    same = λ _. subst (λ (c : Contents). Settles c.main c new) (same is_told) (s is_told);
-    other = λ differs. absurd (differs stay);
-  },
-))
+synced told step old middle new before since now pairs after (Ok done) light edits stay same later s = (
+  light,
+  λ is_told. (
+    pairs,
+    after,
+    edits is_told,
+    record {
+      fits = λ differs. absurd (differs stay);
+      same = λ _. subst (λ (c : Contents). Settles c.main c new) (same is_told) (s is_told);
+      other = λ differs. absurd (differs stay);
+    },
+  ),
+)
 synced told step old middle new before since now pairs after (Err Words) light edits stay same later s = absurd s
 synced told step old middle new before since now pairs after (Err Storage) light edits stay same later s = (
   light,
   rose_since _ _ _ later s.0,
-  λ is_told. inr (pairs, after, edits is_told, record {
-    fits = λ differs. absurd (differs stay);
-    place = inl (subst (λ (c : Contents). Untouched c new) (same is_told) (s.1 is_told));
-  }),
+  λ is_told. inr (
+    pairs,
+    after,
+    edits is_told,
+    record {
+      fits = λ differs. absurd (differs stay);
+      place = inl (subst (λ (c : Contents). Untouched c new) (same is_told) (s.1 is_told));
+    },
+  ),
 )
 synced told step old middle new before since now pairs after (Err Corrupt) light edits stay same later s = absurd s
 synced told step old middle new before since now pairs after (Err (TooLong len)) light edits stay same later s = absurd s
@@ -82,32 +90,45 @@ place_of old new pairs after differs (inr replaced) = inr (differs, replaced)
 pub stored : {T : Type 0} (told : Bool) (step : EditStep) (old middle new : Contents) (before since now : Tally) (pairs after : List PrefPair) (result : Result T ToolError)
     → IsLight step → (IsTrue told → Edits step old.main pairs after) → after ≢ pairs → (IsTrue told → middle ≡ old) → before.count ≤ since.count
     → StoresMap told after middle since result new now → ChangesMain told step old before result new now
-stored told step old middle new before since now pairs after (Ok done) light edits differs same later s = (light, λ is_told. (
-  pairs,
-  after,
-  edits is_told,
-  record {
-    fits = λ _. s.0;
-    same = λ stay. absurd (differs stay);
-    other = λ _. subst (λ (c : Contents). Settles (Some (encoded after)) c new) (same is_told) (s.1 is_told);
-  },
-))
+stored told step old middle new before since now pairs after (Ok done) light edits differs same later s = (
+  light,
+  λ is_told. (
+    pairs,
+    after,
+    edits is_told,
+    record {
+      fits = λ _. s.0;
+      same = λ stay. absurd (differs stay);
+      other = λ _. subst (λ (c : Contents). Settles (Some (encoded after)) c new) (same is_told) (s.1 is_told);
+    },
+  ),
+)
 stored told step old middle new before since now pairs after (Err Words) light edits differs same later s = absurd s
 stored told step old middle new before since now pairs after (Err Storage) light edits differs same later s = (
   light,
   rose_since _ _ _ later s.1,
-  λ is_told. inr (pairs, after, edits is_told, record {
-    fits = λ _. s.0;
-    place = place_of old new pairs after differs (subst (λ (c : Contents). Untouched c new ⊎ Replaces (encoded after) c new) (same is_told) (s.2 is_told));
-  }),
+  λ is_told. inr (
+    pairs,
+    after,
+    edits is_told,
+    record {
+      fits = λ _. s.0;
+      place = place_of old new pairs after differs (subst (λ (c : Contents). Untouched c new ⊎ Replaces (encoded after) c new) (same is_told) (s.2 is_told));
+    },
+  ),
 )
 stored told step old middle new before since now pairs after (Err Corrupt) light edits differs same later s = absurd s
 stored told step old middle new before since now pairs after (Err (TooLong len)) light edits differs same later s = absurd s
 stored told step old middle new before since now pairs after (Err EditTooLong) light edits differs same later s = absurd s
 stored told step old middle new before since now pairs after (Err (ValueTooLong len)) light edits differs same later s = (
   light,
-  λ is_told. (pairs, after, edits is_told, record { differs = differs; length_is = s.0; past = s.1 },
-  subst (λ (c : Contents). Untouched c new) (same is_told) (s.2 is_told)),
+  λ is_told. (
+    pairs,
+    after,
+    edits is_told,
+    record { differs = differs; length_is = s.0; past = s.1 },
+    subst (λ (c : Contents). Untouched c new) (same is_told) (s.2 is_told),
+  ),
 )
 stored told step old middle new before since now pairs after (Err WriteFault) light edits differs same later s = absurd s
 stored told step old middle new before since now pairs after (Err NoMemory) light edits differs same later s = λ is_told. subst (λ (c : Contents). Untouched c new) (same is_told) (s is_told)

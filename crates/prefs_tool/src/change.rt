@@ -13,7 +13,7 @@ use prefs_edit::{Edit, EditError, EditStep};
 use prefs_model::PrefMap;
 use prefs_proto::PrefsCodec;
 use std::alloc::Global;
-use store_traits::{Applied, Transform};
+use store_traits::{Applied, Codec, Transform};
 
 /// Makes what the step makes of the settings that main reads as. Where they stay the same, nothing is
 /// written, and the folder is synced all the same.

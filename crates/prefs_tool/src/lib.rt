@@ -12,6 +12,8 @@ mod read;
 mod replace;
 mod show;
 mod status;
+#[cfg(test)]
+mod tests;
 mod tool;
 mod tool_error;
 mod words;

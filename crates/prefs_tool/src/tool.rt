@@ -35,7 +35,7 @@ pub fn run_tool<S: Source, K: Sink, F: Folder>(
     // What the words ask for is done, or the status says why not, what is told, and what the folder holds.
     ensures outcome { (command : Command) → Asks (texts words.now) command
         → Outcome F.told K.told command (F.contents folder.old) (F.tally folder.old) (K.held sink.old) (K.count sink.old)
-            result (F.contents folder.new) (F.tally folder.new) (K.held sink.new) (K.count sink.new) }
+        result (F.contents folder.new) (F.tally folder.new) (K.held sink.new) (K.count sink.new) }
     ensures source { source.new ≡ source.old }
 {
     let _ = source;

@@ -14,15 +14,11 @@ pub(crate) enum ToolError {
     Storage,
     Corrupt,
     /// Main has `len` bytes.
-    TooLong {
-        len: u64,
-    },
+    TooLong { len: u64 },
     /// The edit weighs too much.
     EditTooLong,
     /// The new text would have `len` bytes.
-    ValueTooLong {
-        len: u64,
-    },
+    ValueTooLong { len: u64 },
     WriteFault,
     NoMemory,
     NoKey,

@@ -45,7 +45,7 @@ loop-pair-preserved g c =
       | then-len-ge-PIECE_LEN+in_ok-write w ↦ rw (w.sink-is, w.piece-is) (record {
         later = omega (arith, so_far.later, w.in_ok-write.ensures.0);
         written = λ told. piece_written _ (string_bytes c.push_line.new.piece) _ (held first) (held c.loop-pair.sink) (held w.write.new.sink) w.clear.ensures.bytes
-        (w.in_ok-write.ensures.1 told ∙ ap (λ (p : List ℕ). held c.loop-pair.sink ++ p) (w.as_bytes.ensures.value ∙ w.as_str.ensures.value)) (gathered told);
+            (w.in_ok-write.ensures.1 told ∙ ap (λ (p : List ℕ). held c.loop-pair.sink ++ p) (w.as_bytes.ensures.value ∙ w.as_str.ensures.value)) (gathered told);
       })
       | else-len-ge-PIECE_LEN w ↦ rw (w.sink-is, w.piece-is) (record { later = so_far.later; written = gathered })
     ]
