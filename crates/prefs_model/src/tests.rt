@@ -126,13 +126,13 @@ fn a_key_has_at_most_1024_bytes(rt: HostRuntime) -> Result<(), Fail> {
     Ok(())
 }
 
-fn needs_send<T: Send>() {}
+fn crosses_threads<T: Send>() {}
 
 fn needs_sync<T: Sync>() {}
 
 #[test]
 fn maps_go_to_other_threads(_: HostRuntime) {
-    needs_send::<PrefMap>();
+    crosses_threads::<PrefMap>();
     needs_sync::<PrefMap>();
-    needs_send::<Arc<PrefMap>>();
+    crosses_threads::<Arc<PrefMap>>();
 }

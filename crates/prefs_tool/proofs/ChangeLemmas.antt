@@ -1,5 +1,5 @@
 -- A change of the settings, by the step at which it stopped.
-use Rattle.std.proofs.Common.{◌≡◌, ◌≢◌, ◌∷◌, [], ◌≤◌, ◌<◌, inl, inr, ℕ, Bool, false, IsTrue, Result, Ok, Err, Option, Some, List, ◌⊎◌, ◌∙◌, length, min, sym, ap, refl, subst, arith}
+use Rattle.std.proofs.Common.{◌≡◌, ◌≢◌, ◌≤◌, inl, inr, Bool, false, IsTrue, Result, Ok, Err, Some, List, ◌⊎◌, ap, refl, subst}
 use Rattle.folder_disk.specs.Contents.{Contents}
 use Rattle.folder_disk.specs.Tally.{Tally}
 use Rattle.store_traits.proofs.FaultLemmas.{rose_since}

@@ -1,5 +1,5 @@
 -- How the bodies of the commands end.
-use Rattle.std.proofs.Common.{◌≡◌, ◌∙◌, ◌≤◌, ◌++◌, inl, inr, ℕ, Bool, true, false, IsTrue, Result, Ok, Err, Option, List, [], refl, sym, ap, append-nil, arith}
+use Rattle.std.proofs.Common.{◌≡◌, ◌≤◌, inl, inr, ℕ, Bool, true, false, IsTrue, Result, Ok, Err, Option, List, [], refl, sym, append-nil, arith}
 use Rattle.folder_disk.specs.Contents.{Contents}
 use Rattle.folder_disk.specs.Tally.{Tally}
 use Rattle.prefs_model.specs.declared.pref_pair.PrefPair.{PrefPair}
@@ -8,9 +8,9 @@ use Rattle.prefs_edit.specs.declared.edit_step.EditStep.TheVariants as step
 use Rattle.prefs_tool.specs.Reading.{ReadsAs}
 use Rattle.prefs_tool.specs.Changing.{ChangesMain}
 use Rattle.prefs_tool.specs.Writing.{GainsFront, WritesPiece, WritesText}
-use Rattle.prefs_tool.specs.Outcome.{Answers, Prints, PrintsFront, shown}
+use Rattle.prefs_tool.specs.Outcome.{Prints, PrintsFront, shown}
 use Rattle.prefs_tool.specs.Ending.{Ends, Gains}
-use Rattle.prefs_tool.specs.declared.command.Command.TheVariants.{Set, Get, Remove, Show}
+use Rattle.command_words.specs.declared.command.Command.TheVariants.{Set, Get, Remove, Show}
 use Rattle.prefs_tool.specs.declared.tool_error.ToolError.{ToolError}
 use Rattle.prefs_tool.specs.declared.tool_error.ToolError.TheVariants.{Words, Storage, Corrupt, TooLong, EditTooLong, ValueTooLong, WriteFault, NoMemory, NoKey}
 use Rattle.prefs_tool.proofs.ChangeLemmas.{untouched}

@@ -1,12 +1,7 @@
 pub mod AppendLemmas
-pub mod AsksOne
 pub mod ChangeLemmas
-pub mod DashLemmas
 pub mod EndLemmas
-pub mod LineLemmas
-pub mod PlainWordLemmas
 pub mod ReadLemmas
 pub mod ShowLemmas
 pub mod ToolLemmas
-pub mod WalkLemmas
 pub mod WriteLemmas

@@ -1,9 +1,7 @@
 -- Lines that are gathered and written piece by piece.
 use Rattle.std.proofs.Common.{◌≡◌, ◌∙◌, ◌≤◌, ◌<◌, ◌++◌, ◌∷◌, ◌+◌, ℕ, Bool, IsTrue, Result, Ok, Err, List, [], take, drop, length, get_or, refl, sym, ap, subst, append_assoc, append-nil, arith}
-use Rattle.std.specs.List.{flat_map}
 use Rattle.std.proofs.lemmas.List.{take-append-drop, take_more}
 use Rattle.std.proofs.lemmas.List.Concat.{flat_map-append}
-use Rattle.store_traits.specs.Faults.{Rose}
 use Rattle.store_traits.proofs.FaultLemmas.{rose_since}
 use Rattle.prefs_model.specs.declared.pref_pair.PrefPair.{PrefPair}
 use Rattle.prefs_text.specs.MapText.{pair_text}

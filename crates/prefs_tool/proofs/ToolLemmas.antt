@@ -1,21 +1,19 @@
 -- From the body of a command to its status and what was told.
-use Rattle.std.proofs.Common.{◌≡◌, ◌≢◌, ◌∙◌, ◌≤◌, ◌++◌, inl, inr, ◌⊎◌, ℕ, Bool, IsTrue, Result, Ok, Err, List, [], refl, sym, ap, subst, append_assoc, append-nil, arith}
+use Rattle.std.proofs.Common.{◌≡◌, ◌≢◌, ◌∙◌, ◌++◌, inl, inr, ℕ, Bool, Result, Ok, Err, List, [], refl, sym, ap, subst, append_assoc, append-nil}
 use Rattle.folder_disk.specs.Contents.{Contents}
 use Rattle.folder_disk.specs.Tally.{Tally}
-use Rattle.store_traits.specs.Faults.{Rose}
 use Rattle.store_traits.proofs.FaultLemmas.{rose_since}
 use Rattle.prefs_tool.specs.Status.{line_of, status_of, status_after}
-use Rattle.prefs_tool.specs.Writing.{GainsFront}
 use Rattle.prefs_tool.specs.Outcome.{Answers, Outcome, Reports}
 use Rattle.prefs_tool.specs.Ending.{Ends, Gains}
-use Rattle.prefs_tool.specs.declared.command.Command.{Command}
-use Rattle.prefs_tool.specs.declared.command.Command.TheVariants.{Set, Get, Remove, Show}
+use Rattle.command_words.specs.declared.command.Command.{Command}
+use Rattle.command_words.specs.declared.command.Command.TheVariants.{Set, Get, Remove, Show}
 use Rattle.prefs_tool.specs.declared.status.Status.{Status}
 use Rattle.prefs_tool.specs.declared.status.Status.TheVariants as status
 use Rattle.prefs_tool.specs.declared.tool_error.ToolError.{ToolError}
 use Rattle.prefs_tool.specs.declared.tool_error.ToolError.TheVariants.{Words, Storage, Corrupt, TooLong, EditTooLong, ValueTooLong, WriteFault, NoMemory, NoKey}
 use Rattle.prefs_tool.proofs.ChangeLemmas.{untouched}
-use Rattle.prefs_tool.proofs.WriteLemmas.{front_of_first, front_of_second}
+use Rattle.prefs_tool.proofs.WriteLemmas.{front_of_second}
 
 -- ---- want of memory before anything was done
 

@@ -1,7 +1,6 @@
 -- Pieces that are written one after the other.
 use Rattle.std.proofs.Common.{◌≡◌, ◌∙◌, ◌≤◌, ◌++◌, ℕ, Bool, IsTrue, Result, Ok, Err, List, take, drop, sym, ap, append_assoc, arith}
 use Rattle.std.proofs.lemmas.List.{take-append-drop}
-use Rattle.store_traits.specs.Faults.{Rose}
 use Rattle.store_traits.proofs.FaultLemmas.{rose_since}
 use Rattle.prefs_tool.specs.Writing.{GainsFront, WritesPiece}
 use Rattle.prefs_tool.specs.declared.tool_error.ToolError.{ToolError}

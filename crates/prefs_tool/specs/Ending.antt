@@ -8,8 +8,8 @@ use Rattle.prefs_tool.specs.Reading.{StopsReading}
 use Rattle.prefs_tool.specs.Status.{line_of}
 use Rattle.prefs_tool.specs.Writing.{GainsFront}
 use Rattle.prefs_tool.specs.Outcome.{Answers, Lacks, Prints}
-use Rattle.prefs_tool.specs.declared.command.Command.{Command}
-use Rattle.prefs_tool.specs.declared.command.Command.TheVariants.{Get}
+use Rattle.command_words.specs.declared.command.Command.{Command}
+use Rattle.command_words.specs.declared.command.Command.TheVariants.{Get}
 use Rattle.prefs_tool.specs.declared.tool_error.ToolError.{ToolError}
 use Rattle.prefs_tool.specs.declared.tool_error.ToolError.TheVariants.{WriteFault, NoMemory, NoKey}
 

@@ -1,11 +1,7 @@
 pub mod Changing
-pub mod Command
 pub mod Ending
-pub mod Line
-pub mod Matches
 pub mod Outcome
 pub mod Reading
 pub mod Replacing
 pub mod Status
-pub mod Words
 pub mod Writing

@@ -14,8 +14,8 @@ use Rattle.prefs_tool.specs.Reading.{ReadsAs, StopsReading}
 use Rattle.prefs_tool.specs.Changing.{Untouched, ChangesMain}
 use Rattle.prefs_tool.specs.Status.{line, line_of, text_after, status_after}
 use Rattle.prefs_tool.specs.Writing.{GainsFront}
-use Rattle.prefs_tool.specs.declared.command.Command.{Command}
-use Rattle.prefs_tool.specs.declared.command.Command.TheVariants.{Set, Get, Remove, Show}
+use Rattle.command_words.specs.declared.command.Command.{Command}
+use Rattle.command_words.specs.declared.command.Command.TheVariants.{Set, Get, Remove, Show}
 use Rattle.prefs_tool.specs.declared.status.Status.{Status}
 use Rattle.prefs_tool.specs.declared.status.Status.TheVariants.{WriteFault, NoMemory}
 use Rattle.prefs_tool.specs.declared.tool_error.ToolError.{ToolError}

@@ -1,5 +1,5 @@
 ghost use Rattle.std.specs.Prelude.{◌≡◌, ◌≤◌, IsTrue};
-ghost use Rattle.prefs_tool.specs.declared.command.Command.TheVariants.{Get};
+ghost use Rattle.command_words.specs.declared.command.Command.TheVariants.{Get};
 ghost use Rattle.prefs_tool.specs.Ending.{Ends, FindsLine};
 
 use crate::read::read_map;

@@ -1,12 +1,12 @@
-//! The commands of the program: words in, a folder read or changed, a sink written to, a status out. It
-//! stands on `prefs_proto` for the text of the settings and on `folder_disk` for the folder.
+//! The commands of the program: words in, a folder read or changed, a sink written to, a status out. It stands on
+//! `command_words` for the words, on `prefs_proto` for the text of the settings, on `prefs_edit` and `prefs_text` for
+//! edits and printed texts, and on `folder_disk` and `byte_io` for the folder and the sink.
 //! Its one contract above is that of `run_tool`: which words are a command, what each status says of the
 //! folder and the sink, and why it was given.
 #![tactic(auto)]
 
 mod append;
 mod change;
-mod command;
 mod get;
 mod read;
 mod replace;
@@ -16,7 +16,6 @@ mod status;
 mod tests;
 mod tool;
 mod tool_error;
-mod words;
 mod write;
 
 pub use status::Status;

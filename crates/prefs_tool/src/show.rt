@@ -1,6 +1,6 @@
 ghost use Rattle.std.specs.Prelude.{◌≡◌, ◌++◌, string_bytes, OnOk};
 ghost use Rattle.prefs_text.specs.MapText.{pair_text};
-ghost use Rattle.prefs_tool.specs.declared.command.Command.TheVariants.{Show};
+ghost use Rattle.command_words.specs.declared.command.Command.TheVariants.{Show};
 ghost use Rattle.prefs_tool.specs.Ending.{Ends};
 ghost use Rattle.prefs_tool.specs.Outcome.{shown};
 ghost use Rattle.prefs_tool.specs.Status.{line};

@@ -2,7 +2,6 @@
 mod faults;
 mod large;
 mod rows;
-mod words;
 
 use crate::run_tool;
 use byte_io::{MemSink, MemSource};

@@ -1,19 +1,18 @@
 ghost use Rattle.std.specs.Prelude.{◌≡◌, Err};
-ghost use Rattle.prefs_tool.specs.Command.{Asks, AsksNothing, texts};
-ghost use Rattle.prefs_tool.specs.declared.command.Command.{Command};
+ghost use Rattle.command_words.specs.Command.{Asks, AsksNothing, texts};
+ghost use Rattle.command_words.specs.declared.command.Command.{Command};
 ghost use Rattle.prefs_tool.specs.Ending.{Ends};
 ghost use Rattle.prefs_tool.specs.Outcome.{Outcome, RefusesWords, Reports};
 ghost use Rattle.prefs_tool.specs.Status.{line_of};
 
 use crate::Status;
 use crate::change::change;
-use crate::command::Command;
 use crate::get::get;
 use crate::show::show;
 use crate::tool_error::ToolError;
-use crate::words::asked;
 use crate::write::write_line;
 use byte_io::{Sink, Source};
+use command_words::{Command, asked};
 use folder_disk::Folder;
 use prefs_edit::EditStep;
 use std::alloc::Global;

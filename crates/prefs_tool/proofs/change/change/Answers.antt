@@ -1,5 +1,5 @@
 -- Another map was to be stored.
-use Rattle.std.proofs.Common.{◌≡◌, ◌∷◌, [], List, subst}
+use Rattle.std.proofs.Common.{◌≡◌, List, subst}
 use Rattle.store_traits.specs.declared.applied.Applied.TheVariants.{Changed}
 use Rattle.prefs_edit.specs.declared.edit_step.EditStep.{EditStep}
 use Rattle.prefs_edit.specs.After.{after_steps}

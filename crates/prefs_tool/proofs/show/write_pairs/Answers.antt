@@ -1,5 +1,5 @@
 -- Each line is gathered behind those before it, and a piece that is written is a front of all lines.
-use Rattle.std.proofs.Common.{◌≡◌, ◌∙◌, ◌++◌, ◌+◌, ◌≤◌, [], IsTrue, List, ℕ, Err, take, string_bytes, sym, ap, subst, arith}
+use Rattle.std.proofs.Common.{◌≡◌, ◌∙◌, ◌++◌, ◌+◌, IsTrue, List, ℕ, Err, take, string_bytes, ap, subst, arith}
 use Rattle.std.proofs.lemmas.Result.{err_from_is_err_and}
 use Rattle.std.proofs.lemmas.List.{take_all}
 use Rattle.prefs_model.specs.declared.pref_pair.PrefPair.{PrefPair}

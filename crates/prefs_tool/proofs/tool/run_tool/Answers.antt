@@ -1,12 +1,8 @@
 -- The words ask for one command, so what holds of it holds of any that they ask for.
-use Rattle.std.proofs.Common.{◌≡◌, ◌≢◌, List, ℕ, IsTrue, Err, Some, subst, sym}
-use Rattle.std.specs.Option.{IfSome}
-use Rattle.prefs_tool.specs.Command.{Asks, AsksNothing, texts}
-use Rattle.prefs_tool.specs.declared.command.Command.{Command}
-use Rattle.prefs_tool.specs.declared.status.Status.TheVariants as status
+use Rattle.std.proofs.Common.{◌≡◌, ◌≢◌}
+use Rattle.command_words.specs.Command.{texts}
 use Rattle.prefs_tool.specs.declared.tool_error.ToolError.TheVariants.{WriteFault}
-use Rattle.prefs_tool.specs.Outcome.{Outcome}
-use Rattle.prefs_tool.proofs.AsksOne.{asks_one}
+use Rattle.command_words.proofs.AsksOne.{asks_one}
 use Rattle.prefs_tool.proofs.ChangeLemmas.{no_truth}
 use Rattle.prefs_tool.proofs.ToolLemmas.{none_done, well_done, write_failed, told_after}
 use Rattle.prefs_tool.proofs.tool.run_tool.Goals as goal

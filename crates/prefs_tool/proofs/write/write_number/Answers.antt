@@ -1,5 +1,5 @@
 -- The text, then the number, then the end of the line.
-use Rattle.std.proofs.Common.{◌≡◌, ◌∙◌, ◌++◌, ◌∷◌, [], ◌≤◌, IsTrue, List, ℕ, Err, decimal, ap, subst, sym, append_assoc, arith}
+use Rattle.std.proofs.Common.{◌≡◌, ◌∙◌, ◌++◌, ◌∷◌, [], List, ℕ, Err, decimal, ap, subst, append_assoc, arith}
 use Rattle.std.proofs.lemmas.Result.{err_from_is_err_and}
 use Rattle.prefs_tool.specs.Writing.{WritesPiece}
 use Rattle.prefs_tool.proofs.WriteLemmas.{piece_behind, piece_stops}

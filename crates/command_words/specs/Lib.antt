@@ -1,0 +1,4 @@
+pub mod Command
+pub mod Line
+pub mod Matches
+pub mod Words

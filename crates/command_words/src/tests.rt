@@ -1,0 +1,2 @@
+//! Lines of words, and what they ask for.
+mod words;
