@@ -3,13 +3,16 @@
 #![tactic(auto)]
 
 use anyhow::{Context, Result, bail};
+use byte_io::{MemSink, NeverFails};
+use folder_disk::{MainRead, MemFolder};
 use prefs_model::PrefMap;
 use prefs_proto::PrefsCodec;
+use prefs_tool::{Status, run_tool};
 use std::alloc::Global;
 use std::hint::black_box;
 use std::time::Instant;
 use std::{env, fs};
-use store_traits::{Codec, Decoded};
+use store_traits::{Codec, Decoded, FileBytes};
 
 /// What is done once.
 #[derive(Clone, Copy, Debug)]
@@ -20,6 +23,8 @@ enum Work {
     Decode,
     /// Writes the settings of the file.
     Encode,
+    /// Does the command `show` on the file, over devices in memory.
+    Show,
 }
 
 impl Work {
@@ -28,6 +33,7 @@ impl Work {
             "walk" => Some(Work::Walk),
             "decode" => Some(Work::Decode),
             "encode" => Some(Work::Encode),
+            "show" => Some(Work::Show),
             _ => None,
         }
     }
@@ -37,7 +43,23 @@ impl Work {
             Work::Walk => Ok(wire_codec::count_fields(bytes, 0)?),
             Work::Decode => Ok(settings_of(alloc, bytes)?.pairs().len() as u64),
             Work::Encode => Ok(PrefsCodec.encode(alloc, map)?.as_slice().len() as u64),
+            Work::Show => shown(alloc, bytes),
         }
+    }
+}
+
+/// How many bytes `show` prints of the file.
+fn shown(alloc: Global, bytes: &[u8]) -> Result<u64> {
+    let main = MainRead::Bytes(FileBytes::new(bytes.to_vec(alloc)?));
+    let mut folder = MemFolder::new(alloc, main, Vec::new(alloc))?;
+    // A line has at most a few bytes more than its entry.
+    let room = (bytes.len() as u64).min(1 << 20) * 8;
+    let mut sink = MemSink::new(alloc, room, Vec::new(alloc))?;
+    let mut source = NeverFails::new(FileBytes::new(Vec::new(alloc)));
+    let words = vec![in alloc; String::from_str(alloc, "show")?]?;
+    match run_tool(alloc, &words, &mut source, &mut sink, &mut folder) {
+        Status::Done => Ok(sink.held().len() as u64),
+        _ => bail!("the file was not shown"),
     }
 }
 

@@ -30,7 +30,7 @@ const UNSET: &[u8] = b"\x0a\x07\x0a\x01a\x12\x02\x48\x01";
 /// A later entry gives it one.
 const SET_LATER: &[u8] = b"\x0a\x07\x0a\x01a\x12\x02\x48\x01\x0a\x07\x0a\x01a\x12\x02\x18\x02";
 
-const ROWS: [Row; 19] = [
+const ROWS: [Row; 22] = [
     (None, "set volume int 5", 0, "", Some(VOLUME)),
     (Some(VOLUME), "get volume", 0, "int 5\n", Some(VOLUME)),
     (
@@ -43,6 +43,15 @@ const ROWS: [Row; 19] = [
     (Some(VOLUME), "remove volume", 0, "", Some(b"")),
     (Some(VOLUME), "remove theme", 0, "", Some(VOLUME)),
     (Some(VOLUME), "set a int 1", 0, "", Some(BOTH)),
+    (None, "remove a", 0, "", None),
+    (None, "get a", 9, "error: no key\n", None),
+    (
+        Some(b"\0"),
+        "set a int 1",
+        4,
+        "error: corrupt\n",
+        Some(b"\0"),
+    ),
     (Some(b""), "show", 0, "", Some(b"")),
     (None, "show", 0, "", None),
     (
