@@ -1,45 +1,18 @@
 -- A change of the settings, by the step at which it stopped.
-use Rattle.std.proofs.Common.{◌≡◌, ◌≢◌, ◌≤◌, inl, inr, Bool, false, IsTrue, Result, Ok, Err, Some, List, ◌⊎◌, ap, refl, subst}
+use Rattle.std.proofs.Common.{◌≡◌, ◌≢◌, ◌≤◌, inl, inr, Bool, false, IsTrue, Result, Ok, Err, Some, List, ◌⊎◌, ap, subst}
 use Rattle.folder_disk.specs.Contents.{Contents}
 use Rattle.folder_disk.specs.Tally.{Tally}
 use Rattle.store_traits.proofs.FaultLemmas.{rose_since}
 use Rattle.prefs_model.specs.declared.pref_pair.PrefPair.{PrefPair}
 use Rattle.prefs_proto.specs.Encoded.{encoded}
 use Rattle.prefs_edit.specs.declared.edit_step.EditStep.{EditStep}
-use Rattle.prefs_tool.specs.Reading.{StopsReading}
-use Rattle.prefs_tool.specs.Changing.{Untouched, Replaces, Settles, IsLight, Edits, NoEdit, ChangesMain}
+use Rattle.prefs_tool.specs.Changing.{Untouched, Replaces, Settles, IsLight, Edits, ChangesMain}
 use Rattle.prefs_tool.specs.Replacing.{SyncsMain, StoresMap}
 use Rattle.prefs_tool.specs.declared.tool_error.ToolError.{ToolError}
-use Rattle.prefs_tool.specs.declared.tool_error.ToolError.TheVariants.{Words, Storage, Corrupt, TooLong, EditTooLong, ValueTooLong, WriteFault, NoMemory, NoKey}
+use Rattle.prefs_tool.specs.declared.tool_error.ToolError.TheVariants.{Storage, ValueTooLong, NoMemory}
 
 pub untouched : (old new : Contents) → new ≡ old → Untouched old new
 untouched old new same = record { main = ap (λ (c : Contents). c.main) same; kept = ap (λ (c : Contents). c.kept) same }
-
--- no edit was made, and the folder was not asked
-pub no_edit : (T : Type 0) (told : Bool) (step : EditStep) (old : Contents) (tally : Tally) (e : ToolError)
-    → NoEdit step e → ChangesMain {T = T} told step old tally (Err e) old tally
-no_edit T told step old tally Words cause = absurd cause
-no_edit T told step old tally Storage cause = absurd cause
-no_edit T told step old tally Corrupt cause = absurd cause
-no_edit T told step old tally (TooLong len) cause = absurd cause
-no_edit T told step old tally EditTooLong cause = (cause, λ is_told. untouched old old refl)
-no_edit T told step old tally (ValueTooLong len) cause = absurd cause
-no_edit T told step old tally WriteFault cause = absurd cause
-no_edit T told step old tally NoMemory cause = λ is_told. untouched old old refl
-no_edit T told step old tally NoKey cause = absurd cause
-
--- main was not read
-pub not_read : (T : Type 0) (told : Bool) (step : EditStep) (old new : Contents) (before now : Tally) (e : ToolError)
-    → IsLight step → (IsTrue told → new ≡ old) → StopsReading told old.main before now e → ChangesMain {T = T} told step old before (Err e) new now
-not_read T told step old new before now Words light same stops = absurd stops
-not_read T told step old new before now Storage light same stops = (light, stops.0, λ is_told. inl (stops.1 is_told, untouched old new (same is_told)))
-not_read T told step old new before now Corrupt light same stops = (light, λ is_told. (stops is_told, untouched old new (same is_told)))
-not_read T told step old new before now (TooLong len) light same stops = (light, λ is_told. (stops is_told, untouched old new (same is_told)))
-not_read T told step old new before now EditTooLong light same stops = absurd stops
-not_read T told step old new before now (ValueTooLong len) light same stops = absurd stops
-not_read T told step old new before now WriteFault light same stops = absurd stops
-not_read T told step old new before now NoMemory light same stops = λ is_told. untouched old new (same is_told)
-not_read T told step old new before now NoKey light same stops = absurd stops
 
 -- the map stays as it was, and the folder was synced
 pub synced : {T : Type 0} (told : Bool) (step : EditStep) (old middle new : Contents) (before since now : Tally) (pairs after : List PrefPair) (result : Result T ToolError)
@@ -58,7 +31,6 @@ synced told step old middle new before since now pairs after (Ok done) light edi
     },
   ),
 )
-synced told step old middle new before since now pairs after (Err Words) light edits stay same later s = absurd s
 synced told step old middle new before since now pairs after (Err Storage) light edits stay same later s = (
   light,
   rose_since _ _ _ later s.0,
@@ -72,13 +44,7 @@ synced told step old middle new before since now pairs after (Err Storage) light
     },
   ),
 )
-synced told step old middle new before since now pairs after (Err Corrupt) light edits stay same later s = absurd s
-synced told step old middle new before since now pairs after (Err (TooLong len)) light edits stay same later s = absurd s
-synced told step old middle new before since now pairs after (Err EditTooLong) light edits stay same later s = absurd s
-synced told step old middle new before since now pairs after (Err (ValueTooLong len)) light edits stay same later s = absurd s
-synced told step old middle new before since now pairs after (Err WriteFault) light edits stay same later s = absurd s
-synced told step old middle new before since now pairs after (Err NoMemory) light edits stay same later s = absurd s
-synced told step old middle new before since now pairs after (Err NoKey) light edits stay same later s = absurd s
+synced told step old middle new before since now pairs after (Err e) light edits stay same later s = absurd s
 
 -- after the rename the folder has another map's text
 place_of : (old new : Contents) (pairs after : List PrefPair) → after ≢ pairs → Untouched old new ⊎ Replaces (encoded after) old new
@@ -103,7 +69,6 @@ stored told step old middle new before since now pairs after (Ok done) light edi
     },
   ),
 )
-stored told step old middle new before since now pairs after (Err Words) light edits differs same later s = absurd s
 stored told step old middle new before since now pairs after (Err Storage) light edits differs same later s = (
   light,
   rose_since _ _ _ later s.1,
@@ -117,9 +82,6 @@ stored told step old middle new before since now pairs after (Err Storage) light
     },
   ),
 )
-stored told step old middle new before since now pairs after (Err Corrupt) light edits differs same later s = absurd s
-stored told step old middle new before since now pairs after (Err (TooLong len)) light edits differs same later s = absurd s
-stored told step old middle new before since now pairs after (Err EditTooLong) light edits differs same later s = absurd s
 stored told step old middle new before since now pairs after (Err (ValueTooLong len)) light edits differs same later s = (
   light,
   λ is_told. (
@@ -130,9 +92,8 @@ stored told step old middle new before since now pairs after (Err (ValueTooLong 
     subst (λ (c : Contents). Untouched c new) (same is_told) (s.2 is_told),
   ),
 )
-stored told step old middle new before since now pairs after (Err WriteFault) light edits differs same later s = absurd s
 stored told step old middle new before since now pairs after (Err NoMemory) light edits differs same later s = λ is_told. subst (λ (c : Contents). Untouched c new) (same is_told) (s is_told)
-stored told step old middle new before since now pairs after (Err NoKey) light edits differs same later s = absurd s
+stored told step old middle new before since now pairs after (Err e) light edits differs same later s = absurd s
 
 pub no_truth : (b : Bool) → b ≡ false → IsTrue b → ⊥
 no_truth b is holds = cc

@@ -1,5 +1,5 @@
 -- Lines that are gathered and written piece by piece.
-use Rattle.std.proofs.Common.{◌≡◌, ◌∙◌, ◌≤◌, ◌<◌, ◌++◌, ◌∷◌, ◌+◌, ℕ, Bool, IsTrue, Result, Ok, Err, List, [], take, drop, length, get_or, refl, sym, ap, subst, append_assoc, append-nil, arith}
+use Rattle.std.proofs.Common.{◌≡◌, ◌∙◌, ◌≤◌, ◌<◌, ◌++◌, ◌∷◌, ◌+◌, ℕ, Bool, IsTrue, Result, Ok, Err, List, [], take, drop, length, get_or, sym, ap, subst, append_assoc, append-nil, arith}
 use Rattle.std.proofs.lemmas.List.{take-append-drop, take_more}
 use Rattle.std.proofs.lemmas.List.Concat.{flat_map-append}
 use Rattle.store_traits.proofs.FaultLemmas.{rose_since}
@@ -10,16 +10,13 @@ use Rattle.prefs_tool.specs.Status.{line}
 use Rattle.prefs_tool.specs.Writing.{GainsFront, WritesPiece, WritesText}
 use Rattle.prefs_tool.proofs.WriteLemmas.{front_of_first, front_of_second}
 use Rattle.prefs_tool.specs.declared.tool_error.ToolError.{ToolError}
-use Rattle.prefs_tool.specs.declared.tool_error.ToolError.TheVariants.{Words, Storage, Corrupt, TooLong, EditTooLong, ValueTooLong, WriteFault, NoMemory, NoKey}
+use Rattle.prefs_tool.specs.declared.tool_error.ToolError.TheVariants.{WriteFault, NoMemory}
 
 -- of the lines so far all are written but the piece
 pub record AreWritten (lines piece held gained : List ℕ) : Type 0 where
   pub written : List ℕ
   pub parts : lines ≡ written ++ piece
   pub gained_is : gained ≡ held ++ written
-
-pub none_written : (held : List ℕ) → AreWritten [] [] held held
-none_written held = record { written = []; parts = refl; gained_is = sym (append-nil held) }
 
 -- one line more is gathered
 line_more : (lines piece new line held gained : List ℕ) → new ≡ piece ++ line → AreWritten lines piece held gained → AreWritten (lines ++ line) new held gained
@@ -42,7 +39,7 @@ pub front_so_far : (lines piece held gained : List ℕ) → AreWritten lines pie
 front_so_far lines piece held gained so_far = record { front = so_far.written; rest = piece; parts = so_far.parts; gained = so_far.gained_is }
 
 -- and so it is with a front of the piece
-pub front_of_piece : (lines piece held gained more : List ℕ) → AreWritten lines piece held gained → GainsFront piece gained more → GainsFront lines held more
+front_of_piece : (lines piece held gained more : List ℕ) → AreWritten lines piece held gained → GainsFront piece gained more → GainsFront lines held more
 front_of_piece lines piece held gained more so_far gains =
     let both = front_of_second so_far.written piece held gained more so_far.gained_is gains in
     record { front = both.front; rest = both.rest; parts = so_far.parts ∙ both.parts; gained = both.gained }
@@ -64,7 +61,7 @@ line_gathered pairs i pair piece new held gained is within pushed so_far =
     (line_more (shown (take i pairs)) piece new (line (pair_text pair)) held gained pushed so_far)
 
 -- the lines of the first pairs, and those of the others
-pub shown_parts : (pairs : List PrefPair) (i : ℕ) → shown pairs ≡ shown (take i pairs) ++ shown (drop i pairs)
+shown_parts : (pairs : List PrefPair) (i : ℕ) → shown pairs ≡ shown (take i pairs) ++ shown (drop i pairs)
 shown_parts pairs i = ap shown (sym (take-append-drop i pairs)) ∙ flat_map-append pair_line (take i pairs) (drop i pairs)
 
 pub front_of_all : (pairs : List PrefPair) (i : ℕ) (held gained : List ℕ) → GainsFront (shown (take i pairs)) held gained → GainsFront (shown pairs) held gained
@@ -77,26 +74,13 @@ pub last_piece : {T : Type 0} (told : Bool) (lines piece held gained more : List
     → before ≤ since → (IsTrue told → AreWritten lines piece held gained) → WritesPiece told piece gained since result more now → WritesText told lines held before result more now
 last_piece told lines piece held gained more before since now (Ok done) later so_far writes =
     (omega (arith, writes.0), λ is_told. let w = so_far is_told in writes.1 is_told ∙ ap (λ (g : List ℕ). g ++ piece) w.gained_is ∙ append_assoc held w.written piece ∙ ap (λ (l : List ℕ). held ++ l) (sym w.parts))
-last_piece told lines piece held gained more before since now (Err Words) later so_far writes = absurd writes
-last_piece told lines piece held gained more before since now (Err Storage) later so_far writes = absurd writes
-last_piece told lines piece held gained more before since now (Err Corrupt) later so_far writes = absurd writes
-last_piece told lines piece held gained more before since now (Err (TooLong len)) later so_far writes = absurd writes
-last_piece told lines piece held gained more before since now (Err EditTooLong) later so_far writes = absurd writes
-last_piece told lines piece held gained more before since now (Err (ValueTooLong len)) later so_far writes = absurd writes
 last_piece told lines piece held gained more before since now (Err WriteFault) later so_far writes =
     (rose_since before since now later writes.0, λ is_told. front_of_piece lines piece held gained more (so_far is_told) (writes.1 is_told))
-last_piece told lines piece held gained more before since now (Err NoMemory) later so_far writes = absurd writes
-last_piece told lines piece held gained more before since now (Err NoKey) later so_far writes = absurd writes
+last_piece told lines piece held gained more before since now (Err e) later so_far writes = absurd writes
 
 -- lines of some pairs that stopped are lines of all pairs that stopped
 pub stopped_inside : (T : Type 0) (told : Bool) (pairs : List PrefPair) (i : ℕ) (held gained : List ℕ) (before now : ℕ) (e : ToolError)
     → WritesText {T = T} told (shown (take i pairs)) held before (Err e) gained now → WritesText {T = T} told (shown pairs) held before (Err e) gained now
-stopped_inside T told pairs i held gained before now Words writes = absurd writes
-stopped_inside T told pairs i held gained before now Storage writes = absurd writes
-stopped_inside T told pairs i held gained before now Corrupt writes = absurd writes
-stopped_inside T told pairs i held gained before now (TooLong len) writes = absurd writes
-stopped_inside T told pairs i held gained before now EditTooLong writes = absurd writes
-stopped_inside T told pairs i held gained before now (ValueTooLong len) writes = absurd writes
 stopped_inside T told pairs i held gained before now WriteFault writes = (writes.0, λ is_told. front_of_all pairs i held gained (writes.1 is_told))
 stopped_inside T told pairs i held gained before now NoMemory writes = (writes.0, λ is_told. front_of_all pairs i held gained (writes.1 is_told))
-stopped_inside T told pairs i held gained before now NoKey writes = absurd writes
+stopped_inside T told pairs i held gained before now e writes = absurd writes

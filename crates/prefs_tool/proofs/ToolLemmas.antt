@@ -1,9 +1,9 @@
 -- From the body of a command to its status and what was told.
-use Rattle.std.proofs.Common.{◌≡◌, ◌≢◌, ◌∙◌, ◌++◌, inl, inr, ℕ, Bool, Result, Ok, Err, List, [], refl, sym, ap, subst, append_assoc, append-nil}
+use Rattle.std.proofs.Common.{◌≢◌, ◌∙◌, ◌++◌, inl, inr, ℕ, Bool, Ok, Err, List, [], refl, sym, ap, subst, append_assoc, append-nil}
 use Rattle.folder_disk.specs.Contents.{Contents}
 use Rattle.folder_disk.specs.Tally.{Tally}
 use Rattle.store_traits.proofs.FaultLemmas.{rose_since}
-use Rattle.prefs_tool.specs.Status.{line_of, status_of, status_after}
+use Rattle.prefs_tool.specs.Status.{line_of}
 use Rattle.prefs_tool.specs.Outcome.{Answers, Outcome, Reports}
 use Rattle.prefs_tool.specs.Ending.{Ends, Gains}
 use Rattle.command_words.specs.declared.command.Command.{Command}
@@ -11,55 +11,17 @@ use Rattle.command_words.specs.declared.command.Command.TheVariants.{Set, Get, R
 use Rattle.prefs_tool.specs.declared.status.Status.{Status}
 use Rattle.prefs_tool.specs.declared.status.Status.TheVariants as status
 use Rattle.prefs_tool.specs.declared.tool_error.ToolError.{ToolError}
-use Rattle.prefs_tool.specs.declared.tool_error.ToolError.TheVariants.{Words, Storage, Corrupt, TooLong, EditTooLong, ValueTooLong, WriteFault, NoMemory, NoKey}
+use Rattle.prefs_tool.specs.declared.tool_error.ToolError.TheVariants.{WriteFault, NoMemory}
 use Rattle.prefs_tool.proofs.ChangeLemmas.{untouched}
 use Rattle.prefs_tool.proofs.WriteLemmas.{front_of_second}
 
 -- ---- want of memory before anything was done
 
-pub no_memory : (told : Bool) (command : Command) (old : Contents) (tally : Tally) → Answers told command old tally (Err NoMemory) [] old tally
+no_memory : (told : Bool) (command : Command) (old : Contents) (tally : Tally) → Answers told command old tally (Err NoMemory) [] old tally
 no_memory told (Set key value) old tally = (λ is_told. untouched old old refl, refl)
 no_memory told (Get key) old tally = (λ is_told. inl refl, λ is_told. untouched old old refl)
 no_memory told (Remove key) old tally = (λ is_told. untouched old old refl, refl)
 no_memory told Show old tally = (λ is_told. inl refl, λ is_told. untouched old old refl)
-
--- ---- no answer of a command is that the words are none, or that a write failed
-
-no_words : (told : Bool) (command : Command) (old new : Contents) (before now : Tally) (text : List ℕ) → Answers told command old before (Err Words) text new now → ⊥
-no_words told (Set key value) old new before now text answers = answers.0
-no_words told (Get key) old new before now text answers = answers.0.1
-no_words told (Remove key) old new before now text answers = answers.0
-no_words told Show old new before now text answers = answers.0.1
-
--- an error that ends as refused words is that one
-is_words : (e : ToolError) → status_of e ≡ status.Words → e ≡ Words
-is_words Words is = refl
-is_words Storage is = absurd cc
-is_words Corrupt is = absurd cc
-is_words (TooLong len) is = absurd cc
-is_words EditTooLong is = absurd cc
-is_words (ValueTooLong len) is = absurd cc
-is_words WriteFault is = absurd cc
-is_words NoMemory is = absurd cc
-is_words NoKey is = absurd cc
-
-not_words_after : (told : Bool) (command : Command) (old new : Contents) (before now : Tally) (text : List ℕ) (answer : Result (Unit {0}) ToolError)
-    → Answers told command old before answer text new now → status_after answer ≡ status.Words → ⊥
-not_words_after told command old new before now text (Ok done) answers is = absurd cc
-not_words_after told command old new before now text (Err e) answers is =
-    no_words told command old new before now text (subst (λ (x : ToolError). Answers told command old before (Err x) text new now) (is_words e is) answers)
-
-not_words_told : (sink_told : Bool) (answer : Result (Unit {0}) ToolError) (text : List ℕ) (s : Status) (held : List ℕ) (faults : ℕ) (gained : List ℕ) (faults_now : ℕ)
-    → Reports sink_told answer text s held faults gained faults_now → s ≡ status.Words → status_after answer ≡ status.Words
-not_words_told sink_told answer text s held faults gained faults_now (inl all) is = sym all.0 ∙ is
-not_words_told sink_told answer text s held faults gained faults_now (inr failed) is = absurd (let bad : status.WriteFault ≡ status.Words = sym failed.0 ∙ is in cc)
-
--- the status of a command is never that its words are none
-pub not_words : (told sink_told : Bool) (command : Command) (old new : Contents) (before now : Tally) (held : List ℕ) (faults : ℕ) (s : Status) (gained : List ℕ) (faults_now : ℕ)
-    → Outcome told sink_told command old before held faults s new now gained faults_now → s ≡ status.Words → ⊥
-not_words told sink_told command old new before now held faults s gained faults_now outcome is =
-    not_words_after told command old new before now outcome.text outcome.answer outcome.answers
-    (not_words_told sink_told outcome.answer outcome.text s held faults gained faults_now outcome.reports is)
 
 -- ---- the outcome of a body that went well
 
@@ -103,15 +65,9 @@ memory_told told sink_told command old new before now held middle gained faults 
 pub told_after : (told sink_told : Bool) (command : Command) (old new : Contents) (before now : Tally) (held middle gained : List ℕ) (faults since faults_now : ℕ) (s : Status) (e : ToolError)
     → e ≢ WriteFault → Ends {T = Unit {0}} told sink_told command old before held faults (Err e) new now middle since → Reports sink_told (Err e) (line_of e) s middle since gained faults_now
     → Outcome told sink_told command old before held faults s new now gained faults_now
-told_after told sink_told command old new before now held middle gained faults since faults_now s Words other ends reports = line_told told sink_told command old new before now Words _ held middle gained faults since faults_now s ends.0 ends.1 reports
-told_after told sink_told command old new before now held middle gained faults since faults_now s Storage other ends reports = line_told told sink_told command old new before now Storage _ held middle gained faults since faults_now s ends.0 ends.1 reports
-told_after told sink_told command old new before now held middle gained faults since faults_now s Corrupt other ends reports = line_told told sink_told command old new before now Corrupt _ held middle gained faults since faults_now s ends.0 ends.1 reports
-told_after told sink_told command old new before now held middle gained faults since faults_now s (TooLong len) other ends reports = line_told told sink_told command old new before now (TooLong len) _ held middle gained faults since faults_now s ends.0 ends.1 reports
-told_after told sink_told command old new before now held middle gained faults since faults_now s EditTooLong other ends reports = line_told told sink_told command old new before now EditTooLong _ held middle gained faults since faults_now s ends.0 ends.1 reports
-told_after told sink_told command old new before now held middle gained faults since faults_now s (ValueTooLong len) other ends reports = line_told told sink_told command old new before now (ValueTooLong len) _ held middle gained faults since faults_now s ends.0 ends.1 reports
 told_after told sink_told command old new before now held middle gained faults since faults_now s WriteFault other ends reports = absurd (other refl)
 told_after told sink_told command old new before now held middle gained faults since faults_now s NoMemory other ends reports = memory_told told sink_told command old new before now held middle gained faults since faults_now s ends reports
-told_after told sink_told command old new before now held middle gained faults since faults_now s NoKey other ends reports = line_told told sink_told command old new before now NoKey _ held middle gained faults since faults_now s ends.0 ends.1 reports
+told_after told sink_told command old new before now held middle gained faults since faults_now s e other ends reports = line_told told sink_told command old new before now e (line_of e) held middle gained faults since faults_now s ends.0 ends.1 reports
 
 -- a write of the body failed, and nothing more is written
 pub write_failed : (told sink_told : Bool) (command : Command) (old new : Contents) (before now : Tally) (held : List ℕ) (faults : ℕ) (gained : List ℕ) (faults_now : ℕ)

@@ -4,7 +4,7 @@ use Rattle.std.proofs.lemmas.List.{take-append-drop}
 use Rattle.store_traits.proofs.FaultLemmas.{rose_since}
 use Rattle.prefs_tool.specs.Writing.{GainsFront, WritesPiece}
 use Rattle.prefs_tool.specs.declared.tool_error.ToolError.{ToolError}
-use Rattle.prefs_tool.specs.declared.tool_error.ToolError.TheVariants.{Words, Storage, Corrupt, TooLong, EditTooLong, ValueTooLong, WriteFault, NoMemory, NoKey}
+use Rattle.prefs_tool.specs.declared.tool_error.ToolError.TheVariants.{WriteFault}
 
 -- what was taken of a piece is a front of it
 pub front_taken : (piece old new : List ℕ) (taken : ℕ) → new ≡ old ++ take taken piece → GainsFront piece old new
@@ -34,26 +34,12 @@ pub piece_behind : {T : Type 0} (told : Bool) (first second old middle new : Lis
     → WritesPiece told (first ++ second) old before result new now
 piece_behind told first second old middle new before since now (Ok done) later whole writes =
     (omega (arith, writes.0), λ is_told. writes.1 is_told ∙ ap (λ (m : List ℕ). m ++ second) (whole is_told) ∙ append_assoc old first second)
-piece_behind told first second old middle new before since now (Err Words) later whole writes = absurd writes
-piece_behind told first second old middle new before since now (Err Storage) later whole writes = absurd writes
-piece_behind told first second old middle new before since now (Err Corrupt) later whole writes = absurd writes
-piece_behind told first second old middle new before since now (Err (TooLong len)) later whole writes = absurd writes
-piece_behind told first second old middle new before since now (Err EditTooLong) later whole writes = absurd writes
-piece_behind told first second old middle new before since now (Err (ValueTooLong len)) later whole writes = absurd writes
 piece_behind told first second old middle new before since now (Err WriteFault) later whole writes =
     (rose_since before since now later writes.0, λ is_told. front_of_second first second old middle new (whole is_told) (writes.1 is_told))
-piece_behind told first second old middle new before since now (Err NoMemory) later whole writes = absurd writes
-piece_behind told first second old middle new before since now (Err NoKey) later whole writes = absurd writes
+piece_behind told first second old middle new before since now (Err e) later whole writes = absurd writes
 
 -- a first piece that failed stops both
 pub piece_stops : (T : Type 0) (told : Bool) (first second old new : List ℕ) (before now : ℕ) (e : ToolError)
     → WritesPiece {T = T} told first old before (Err e) new now → WritesPiece {T = T} told (first ++ second) old before (Err e) new now
-piece_stops T told first second old new before now Words writes = absurd writes
-piece_stops T told first second old new before now Storage writes = absurd writes
-piece_stops T told first second old new before now Corrupt writes = absurd writes
-piece_stops T told first second old new before now (TooLong len) writes = absurd writes
-piece_stops T told first second old new before now EditTooLong writes = absurd writes
-piece_stops T told first second old new before now (ValueTooLong len) writes = absurd writes
 piece_stops T told first second old new before now WriteFault writes = (writes.0, λ is_told. front_of_first first second old new (writes.1 is_told))
-piece_stops T told first second old new before now NoMemory writes = absurd writes
-piece_stops T told first second old new before now NoKey writes = absurd writes
+piece_stops T told first second old new before now e writes = absurd writes
