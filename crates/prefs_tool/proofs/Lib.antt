@@ -1,5 +1,6 @@
 pub mod AppendLemmas
 pub mod ChangeLemmas
+pub mod CompleteLemmas
 pub mod EndLemmas
 pub mod ReadLemmas
 pub mod ShowLemmas

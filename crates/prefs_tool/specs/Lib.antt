@@ -1,4 +1,5 @@
 pub mod Changing
+pub mod Complete
 pub mod Ending
 pub mod Outcome
 pub mod Reading

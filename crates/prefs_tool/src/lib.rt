@@ -8,6 +8,7 @@
 mod append;
 mod change;
 mod get;
+mod laws;
 mod read;
 mod replace;
 mod show;
@@ -18,5 +19,6 @@ mod tool;
 mod tool_error;
 mod write;
 
+pub use laws::sound_commands_are_done;
 pub use status::Status;
 pub use tool::run_tool;
