@@ -1,0 +1,3 @@
+pub mod LegalLemmas
+pub mod RaiseLemmas
+pub mod FreshLemmas

@@ -1,0 +1,10 @@
+pub mod CallOrder
+pub mod Changes
+pub mod Entries
+pub mod FaultCounts
+pub mod Legal
+pub mod Lifetimes
+pub mod Meanings
+pub mod OldSettings
+pub mod OpenRaise
+pub mod Readiness

@@ -1,0 +1,10 @@
+//! The state that the nodes of a store share. So far it has the definitions that all turns are judged by: what a store
+//! is, and which histories of it are lawful. It stands on `hist_journal`, `prefs_model` and `store_traits`.
+//! Its one contract above: a lawful history stays lawful exactly where its next entry fits (`laws`).
+#![tactic(auto)]
+
+mod laws;
+mod store;
+
+pub use laws::{longer_is_legal, prefix_is_legal, quiet_is_fresh};
+pub use store::{DeviceStart, Limits, PlannedDeath, SectionSeen, Store};
