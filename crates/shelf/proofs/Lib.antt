@@ -1,3 +1,6 @@
+pub mod EntryByEntry
+pub mod FreshLemmas
+pub mod LawfulExamples
 pub mod LegalLemmas
 pub mod RaiseLemmas
-pub mod FreshLemmas
+pub mod Tests

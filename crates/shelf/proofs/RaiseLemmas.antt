@@ -8,15 +8,8 @@ use Rattle.hist_journal.specs.declared.seen.EntrySeen.{EntrySeen}
 use Rattle.hist_journal.specs.Kinds.{is_call, is_raise, is_change, is_fault, is_death_of}
 use Rattle.hist_journal.specs.Quiet.{ends, has_raise, pending}
 use Rattle.shelf.specs.Entries.{some_entry, is_own}
+use Rattle.shelf.proofs.Tests.{both_parts, not_true, or_either, or_second}
 use Rattle.shelf.specs.OpenRaise.{spends, is_open_raise, has_open_raise}
-
-both_parts : (x y : Bool) → (x && y) ≡ true → (x ≡ true) × (y ≡ true)
-both_parts true y is = (refl, is)
-both_parts false y is = absurd (let no : false ≡ true = is in cc)
-
-not_true : (b : Bool) → not b ≡ true → b ≡ false
-not_true false is = refl
-not_true true is = absurd (let no : false ≡ true = is in cc)
 
 -- a stronger test passes nothing where the weaker passes nothing
 none_of_fewer : {X : Type 0} (p q : X → Bool) (xs : List X) → ((x : X) → q x ≡ false → p x ≡ false) → list_any q xs ≡ false → list_any p xs ≡ false
@@ -24,14 +17,6 @@ none_of_fewer p q [] weaker none = refl
 none_of_fewer p q (x ∷ xs) weaker none =
     let parts = or_parts (q x) (list_any q xs) none in
     or_from (p x) (list_any p xs) (weaker x parts.0) (none_of_fewer p q xs weaker parts.1)
-
-or_either : (x y : Bool) → (x || y) ≡ true → (x ≡ true) ⊎ (y ≡ true)
-or_either true y is = inl refl
-or_either false y is = inr is
-
-or_second : (x y : Bool) → y ≡ true → (x || y) ≡ true
-or_second true y is = refl
-or_second false y is = is
 
 abbrev named : ℕ → ℕ → ℕ → CallId
 named node client number = record { node = record { 0 = node }; client = record { 0 = client }; number = number }

@@ -1,7 +1,9 @@
 pub mod CallOrder
 pub mod Changes
 pub mod Entries
+pub mod Example
 pub mod FaultCounts
+pub mod Lawful
 pub mod Legal
 pub mod Lifetimes
 pub mod Meanings

@@ -3,8 +3,10 @@
 //! Its one contract above: a lawful history stays lawful exactly where its next entry fits (`laws`).
 #![tactic(auto)]
 
+mod examples;
 mod laws;
 mod store;
 
+pub use examples::{Change, histories_are_lawful};
 pub use laws::{longer_is_legal, prefix_is_legal, quiet_is_fresh};
 pub use store::{DeviceStart, Limits, PlannedDeath, SectionSeen, Store};

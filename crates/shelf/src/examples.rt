@@ -1,0 +1,30 @@
+//! Histories of a small store, to check the definitions by: which of them are lawful, what they come to, and which are
+//! not. The store holds one number; what is lawful of it is lawful of a map with one key.
+ghost use Rattle.std.specs.Prelude.{◌≡◌, ◌∷◌, [], Some, None};
+ghost use Rattle.store_traits.specs.declared.applied.Applied.TheVariants.{Refused};
+ghost use Rattle.hist_journal.specs.declared.seen.BaseSeen.TheVariants.{Held};
+ghost use Rattle.hist_journal.specs.Folds.{edition_of};
+ghost use Rattle.shelf.specs.Legal.{Legal, value_at};
+ghost use Rattle.shelf.specs.Example as example;
+ghost use Rattle.shelf.specs.Lawful as lawful;
+
+/// What an update of the example does with the number.
+pub enum Change {
+    Set(u64),
+    /// Refused with code 2 where the sum passes 2^31 - 1.
+    Add(u64),
+}
+
+/// Each of these histories is lawful.
+pub fn histories_are_lawful()
+    ensures two_nodes { Legal example.meanings example.empty lawful.two_nodes }
+    ensures equal_value { Legal example.meanings example.holds_one lawful.equal_value }
+    ensures death_after_raise { Legal example.meanings example.empty lawful.death_after_raise }
+    ensures death_after_rename { Legal example.meanings example.empty lawful.death_after_rename }
+    ensures sync_fails { Legal example.meanings example.empty lawful.sync_fails }
+    ensures rename_fails { Legal example.meanings example.empty lawful.rename_fails }
+    ensures folder_fails { Legal example.meanings example.empty lawful.folder_fails }
+    ensures greatest { Legal example.meanings example.empty lawful.greatest }
+    ensures replaced { Legal example.meanings example.unreadable lawful.replaced }
+    ensures restarted { Legal example.meanings example.empty lawful.restarted }
+{}
