@@ -4,3 +4,4 @@ pub mod LawfulExamples
 pub mod LegalLemmas
 pub mod RaiseLemmas
 pub mod Tests
+pub mod UnlawfulExamples

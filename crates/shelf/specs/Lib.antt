@@ -3,6 +3,7 @@ pub mod Changes
 pub mod Entries
 pub mod Example
 pub mod FaultCounts
+pub mod Images
 pub mod Lawful
 pub mod Legal
 pub mod Lifetimes
@@ -10,3 +11,4 @@ pub mod Meanings
 pub mod OldSettings
 pub mod OpenRaise
 pub mod Readiness
+pub mod Unlawful

@@ -7,6 +7,7 @@ ghost use Rattle.hist_journal.specs.Folds.{edition_of};
 ghost use Rattle.shelf.specs.Legal.{Legal, value_at};
 ghost use Rattle.shelf.specs.Example as example;
 ghost use Rattle.shelf.specs.Lawful as lawful;
+ghost use Rattle.shelf.specs.Unlawful as unlawful;
 
 /// What an update of the example does with the number.
 pub enum Change {
@@ -27,4 +28,26 @@ pub fn histories_are_lawful()
     ensures greatest { Legal example.meanings example.empty lawful.greatest }
     ensures replaced { Legal example.meanings example.unreadable lawful.replaced }
     ensures restarted { Legal example.meanings example.empty lawful.restarted }
+{}
+
+/// None of these is lawful: of each, the last entry does not fit.
+pub fn histories_are_unlawful()
+    ensures another_raise { Legal example.meanings example.empty unlawful.another_raise → ⊥ }
+    ensures no_raise { Legal example.meanings example.empty unlawful.no_raise → ⊥ }
+    ensures two_edits { Legal example.meanings example.empty unlawful.two_edits → ⊥ }
+    ensures two_ends { Legal example.meanings example.empty unlawful.two_ends → ⊥ }
+    ensures dead_node { Legal example.meanings example.empty unlawful.dead_node → ⊥ }
+    ensures after_fault { Legal example.meanings example.empty unlawful.after_fault → ⊥ }
+    ensures same_changes { Legal example.meanings example.empty unlawful.same_changes → ⊥ }
+    ensures edit_keeps { Legal example.meanings example.holds_one unlawful.edit_keeps → ⊥ }
+    ensures refused_edit { Legal example.meanings example.empty unlawful.refused_edit → ⊥ }
+    ensures readable_replaced { Legal example.meanings example.empty unlawful.readable_replaced → ⊥ }
+    ensures ready_inited { Legal example.meanings example.empty unlawful.ready_inited → ⊥ }
+    ensures unready_edit { Legal example.meanings example.empty unlawful.unready_edit → ⊥ }
+    ensures unready_restart { Legal example.meanings example.empty unlawful.unready_restart → ⊥ }
+    ensures alive_restart { Legal example.meanings example.empty unlawful.alive_restart → ⊥ }
+    ensures another_dies { Legal example.meanings example.empty unlawful.another_dies → ⊥ }
+    ensures numbers_fall { Legal example.meanings example.empty unlawful.numbers_fall → ⊥ }
+    ensures count_stays { Legal example.meanings example.empty unlawful.count_stays → ⊥ }
+    ensures settings_taken { Legal example.meanings example.empty unlawful.settings_taken → ⊥ }
 {}

@@ -7,6 +7,6 @@ mod examples;
 mod laws;
 mod store;
 
-pub use examples::{Change, histories_are_lawful};
+pub use examples::{Change, histories_are_lawful, histories_are_unlawful};
 pub use laws::{longer_is_legal, prefix_is_legal, quiet_is_fresh};
 pub use store::{DeviceStart, Limits, PlannedDeath, SectionSeen, Store};
