@@ -1,5 +1,5 @@
 -- How a history that is written down is shown lawful, entry by entry.
-use Rattle.std.proofs.Common.{◌≡◌, ◌⊎◌, inl, Bool, true, false, ◌&&◌, not, List, [], ◌∷◌, ◌++◌, refl, append_assoc, append-nil, if◌then◌else◌}
+use Rattle.std.proofs.Common.{◌≡◌, inl, Bool, true, false, ◌&&◌, not, List, [], ◌∷◌, ◌++◌, append_assoc, append-nil, if◌then◌else◌}
 use Rattle.std.specs.List.{list_any}
 use Rattle.store_traits.specs.declared.ids.CallId.{CallId}
 use Rattle.hist_journal.specs.declared.seen.EntrySeen.{EntrySeen}

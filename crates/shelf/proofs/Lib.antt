@@ -1,7 +1,9 @@
 pub mod EntryByEntry
 pub mod FreshLemmas
+pub mod ImageLemmas
 pub mod LawfulExamples
 pub mod LegalLemmas
+pub mod PendingLemmas
 pub mod RaiseLemmas
 pub mod Tests
 pub mod UnlawfulExamples

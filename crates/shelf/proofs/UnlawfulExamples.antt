@@ -1,15 +1,16 @@
 -- The unlawful histories of the small store are not lawful.
-use Rattle.std.proofs.Common.{◌≡◌, ⊎_elim, ℕ, true, false, List, [], ◌∷◌, refl, sym, ap, arith}
+use Rattle.std.proofs.Common.{◌≡◌, ⊎_elim, ℕ, [], ◌∷◌, refl, sym, ap, arith}
 use Rattle.store_traits.specs.declared.applied.Applied.TheVariants.{Changed, Refused}
 use Rattle.store_traits.specs.declared.ids.NodeId.{NodeId}
 use Rattle.hist_journal.specs.declared.device.Device.TheVariants.{Folder}
+use Rattle.hist_journal.specs.declared.seen.BaseSeen.{BaseSeen}
 use Rattle.hist_journal.specs.declared.seen.BaseSeen.TheVariants.{Held, Corrupt}
 use Rattle.hist_journal.specs.declared.seen.KindSeen.TheVariants.{Raise, Edit, Same, Replace, Migrate, Synced, Inited, Fault, Death, Restart}
 use Rattle.hist_journal.specs.Folds.{value_of, value_after, edited, applied_or}
 use Rattle.hist_journal.specs.Nodes.{is_dead, is_ready, last_mark}
 use Rattle.shelf.specs.declared.examples.Change.TheVariants.{Set, Add}
 use Rattle.shelf.specs.Example.{meanings, empty, holds_one, a, b, n1, n2}
-use Rattle.shelf.specs.Legal.{Fits, Legal}
+use Rattle.shelf.specs.Legal.{Legal}
 use Rattle.shelf.specs.OpenRaise.{has_open_raise}
 use Rattle.shelf.specs.Unlawful as unlawful
 use Rattle.shelf.proofs.Tests.{never}
@@ -72,7 +73,7 @@ pub no-readable_replaced : Legal meanings empty unlawful.readable_replaced → �
 unfolding is_dead is_ready last_mark has_open_raise value_of value_after edited applied_or
 no-readable_replaced legal =
     let fits = legal.each (a 1 Raise ∷ []) (a 1 (Replace 0)) [] refl in
-    (let no : Held {V = ℕ} 0 ≡ Corrupt = fits.value.unreadable in cc)
+    (let no : ◌≡◌ {A = BaseSeen ℕ} (Held 0) Corrupt = fits.value.unreadable in cc)
 
 pub no-ready_inited : Legal meanings empty unlawful.ready_inited → ⊥
 unfolding is_dead is_ready last_mark has_open_raise value_of value_after edited applied_or

@@ -1,8 +1,7 @@
 -- A small store of one number, which is 0 where there is no file.
-use Rattle.std.specs.Prelude.{ℕ, ◌+◌, ◌-◌, ◌^◌, nat_le, Bool, true, List, [], ◌∷◌, Option, Some, None, if◌then◌else◌}
+use Rattle.std.specs.Prelude.{ℕ, ◌+◌, ◌-◌, ◌^◌, nat_le, true, List, [], ◌∷◌, Option, Some, None, if◌then◌else◌}
 use Rattle.store_traits.specs.declared.applied.Applied.{Applied}
 use Rattle.store_traits.specs.declared.applied.Applied.TheVariants.{Changed, Refused}
-use Rattle.store_traits.specs.declared.ids.CallId.{CallId}
 use Rattle.store_traits.specs.declared.ids.NodeId.{NodeId}
 use Rattle.hist_journal.specs.declared.seen.BaseSeen.{BaseSeen}
 use Rattle.hist_journal.specs.declared.seen.BaseSeen.TheVariants.{Held, Corrupt}

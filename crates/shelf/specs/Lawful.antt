@@ -1,5 +1,5 @@
 -- Lawful histories of the small store, each as a script would leave it.
-use Rattle.std.specs.Prelude.{ℕ, List, [], ◌∷◌}
+use Rattle.std.specs.Prelude.{List, [], ◌∷◌}
 use Rattle.hist_journal.specs.declared.device.Device.TheVariants.{Folder}
 use Rattle.hist_journal.specs.declared.seen.KindSeen.TheVariants.{Raise, Edit, Same, Replace, Synced, Inited, Fault, Death, Restart}
 use Rattle.shelf.specs.declared.examples.Change.TheVariants.{Set, Add}

@@ -8,5 +8,5 @@ mod laws;
 mod store;
 
 pub use examples::{Change, histories_are_lawful, histories_are_unlawful};
-pub use laws::{longer_is_legal, prefix_is_legal, quiet_is_fresh};
+pub use laws::{images_go_on, longer_is_legal, open_is_pending, prefix_is_legal, quiet_is_fresh};
 pub use store::{DeviceStart, Limits, PlannedDeath, SectionSeen, Store};
