@@ -2,8 +2,8 @@
 use Rattle.std.proofs.Common.{refl, arith}
 use Rattle.hist_journal.specs.Folds.{value_of, value_after, edited, applied_or}
 use Rattle.hist_journal.specs.Nodes.{is_dead, is_ready, last_mark}
-use Rattle.shelf.specs.Example.{meanings, empty, holds_one, unreadable}
-use Rattle.shelf.specs.Lawful.{two_nodes, equal_value, death_after_raise, death_after_rename, sync_fails, rename_fails, folder_fails, greatest, replaced, restarted}
+use Rattle.shelf.specs.ExampleStore.{meanings, empty, holds_one, unreadable}
+use Rattle.shelf.specs.LawfulExamples.{two_nodes, equal_value, death_after_raise, death_after_rename, sync_fails, rename_fails, folder_fails, greatest, replaced, restarted}
 use Rattle.shelf.specs.Legal.{Legal}
 use Rattle.shelf.specs.OpenRaise.{has_open_raise}
 use Rattle.shelf.proofs.EntryByEntry.{Legal-each}

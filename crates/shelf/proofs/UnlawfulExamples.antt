@@ -9,10 +9,10 @@ use Rattle.hist_journal.specs.declared.seen.KindSeen.TheVariants.{Raise, Edit, S
 use Rattle.hist_journal.specs.Folds.{value_of, value_after, edited, applied_or}
 use Rattle.hist_journal.specs.Nodes.{is_dead, is_ready, last_mark}
 use Rattle.shelf.specs.declared.examples.Change.TheVariants.{Set, Add}
-use Rattle.shelf.specs.Example.{meanings, empty, holds_one, a, b, n1, n2}
+use Rattle.shelf.specs.ExampleStore.{meanings, empty, holds_one, a, b, n1, n2}
 use Rattle.shelf.specs.Legal.{Legal}
 use Rattle.shelf.specs.OpenRaise.{has_open_raise}
-use Rattle.shelf.specs.Unlawful as unlawful
+use Rattle.shelf.specs.UnlawfulExamples as unlawful
 use Rattle.shelf.proofs.Tests.{never}
 
 pub no-another_raise : Legal meanings empty unlawful.another_raise → ⊥

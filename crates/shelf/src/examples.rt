@@ -4,10 +4,13 @@ ghost use Rattle.std.specs.Prelude.{◌≡◌, ◌∷◌, [], Some, None};
 ghost use Rattle.store_traits.specs.declared.applied.Applied.TheVariants.{Refused};
 ghost use Rattle.hist_journal.specs.declared.seen.BaseSeen.TheVariants.{Held};
 ghost use Rattle.hist_journal.specs.Folds.{edition_of};
+ghost use Rattle.shelf.specs.declared.examples.Change.TheVariants.{Add};
+ghost use Rattle.shelf.specs.Base.{HasItsBase};
+ghost use Rattle.shelf.specs.Images.{images};
 ghost use Rattle.shelf.specs.Legal.{Legal, value_at};
-ghost use Rattle.shelf.specs.Example as example;
-ghost use Rattle.shelf.specs.Lawful as lawful;
-ghost use Rattle.shelf.specs.Unlawful as unlawful;
+ghost use Rattle.shelf.specs.ExampleStore as example;
+ghost use Rattle.shelf.specs.LawfulExamples as lawful;
+ghost use Rattle.shelf.specs.UnlawfulExamples as unlawful;
 
 /// What an update of the example does with the number.
 pub enum Change {
@@ -28,6 +31,26 @@ pub fn histories_are_lawful()
     ensures greatest { Legal example.meanings example.empty lawful.greatest }
     ensures replaced { Legal example.meanings example.unreadable lawful.replaced }
     ensures restarted { Legal example.meanings example.empty lawful.restarted }
+{}
+
+/// What the lawful ones come to: the value and how often it changed, and what a machine stop may leave.
+pub fn histories_come_to()
+    ensures two_nodes { (value_at example.meanings example.empty lawful.two_nodes ≡ Held 2) × (edition_of lawful.two_nodes ≡ 2) }
+    ensures equal_value { (value_at example.meanings example.holds_one lawful.equal_value ≡ Held 1) × (edition_of lawful.equal_value ≡ 0) }
+    ensures greatest { value_at example.meanings example.empty lawful.greatest ≡ Held 2147483647 }
+    ensures refused { example.after (Add 1) 2147483647 ≡ Refused 2 }
+    ensures nothing_yet { images example.meanings example.empty lawful.folder_fails ≡ None ∷ [] }
+    ensures sync_fails { images example.meanings example.empty lawful.sync_fails ≡ None ∷ Some (1 ∷ []) ∷ [] }
+    ensures equal_synced { images example.meanings example.empty lawful.death_after_rename ≡ Some (1 ∷ []) ∷ [] }
+    ensures replaced { images example.meanings example.unreadable lawful.replaced ≡ Some (0 ∷ []) ∷ [] }
+{}
+
+/// What main reads as: each of these stores has the base of its main.
+pub fn stores_have_their_base()
+    ensures absent { HasItsBase example.reads 0 example.empty }
+    ensures readable { HasItsBase example.reads 0 example.holds_one }
+    ensures unreadable { HasItsBase example.reads 0 example.unreadable }
+    ensures too_long { HasItsBase example.reads 0 example.too_long }
 {}
 
 /// None of these is lawful: of each, the last entry does not fit.

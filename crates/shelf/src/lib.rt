@@ -6,7 +6,11 @@
 mod examples;
 mod laws;
 mod store;
+#[cfg(test)]
+mod tests;
 
-pub use examples::{Change, histories_are_lawful, histories_are_unlawful};
+pub use examples::{
+    Change, histories_are_lawful, histories_are_unlawful, histories_come_to, stores_have_their_base,
+};
 pub use laws::{images_go_on, longer_is_legal, open_is_pending, prefix_is_legal, quiet_is_fresh};
 pub use store::{DeviceStart, Limits, PlannedDeath, SectionSeen, Store};

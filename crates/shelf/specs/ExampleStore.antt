@@ -1,10 +1,10 @@
 -- A small store of one number, which is 0 where there is no file.
-use Rattle.std.specs.Prelude.{ℕ, ◌+◌, ◌-◌, ◌^◌, nat_le, true, List, [], ◌∷◌, Option, Some, None, if◌then◌else◌}
+use Rattle.std.specs.Prelude.{◌≡◌, ℕ, ◌+◌, ◌-◌, ◌^◌, nat_le, true, List, [], ◌∷◌, Option, Some, None, if◌then◌else◌}
 use Rattle.store_traits.specs.declared.applied.Applied.{Applied}
 use Rattle.store_traits.specs.declared.applied.Applied.TheVariants.{Changed, Refused}
 use Rattle.store_traits.specs.declared.ids.NodeId.{NodeId}
 use Rattle.hist_journal.specs.declared.seen.BaseSeen.{BaseSeen}
-use Rattle.hist_journal.specs.declared.seen.BaseSeen.TheVariants.{Held, Corrupt}
+use Rattle.hist_journal.specs.declared.seen.BaseSeen.TheVariants.{Held, Corrupt, TooLong}
 use Rattle.hist_journal.specs.declared.seen.EntrySeen.{EntrySeen}
 use Rattle.hist_journal.specs.declared.seen.KindSeen.{KindSeen}
 use Rattle.shelf.specs.declared.examples.Change.{Change}
@@ -19,6 +19,9 @@ after (Add n) old = if nat_le (old + n) (2 ^ 31 - 1) then Changed (old + n) else
 -- a file has the number as its one byte
 abbrev pub meanings : Meanings ℕ Change
 meanings = record { after = after; encoded = λ n. n ∷ [] }
+
+abbrev pub reads : List ℕ → ℕ → Type 0
+reads bytes n = bytes ≡ n ∷ []
 
 abbrev pub n1 : NodeId
 n1 = record { 0 = 1 }
@@ -54,6 +57,10 @@ holds_one = store (Held 1) (Some (1 ∷ [])) None
 -- the file is unreadable, and 0 takes its place
 abbrev pub unreadable : Store ℕ (Unit {0})
 unreadable = store Corrupt (Some (10 ∷ 10 ∷ [])) (Some 0)
+
+-- the same, where a file may have one byte
+abbrev pub too_long : Store ℕ (Unit {0})
+too_long = record unreadable { base = TooLong 2; limits = record { file = 1; history = record { entries = 100000; weight = 67108864 } } }
 
 abbrev pub Entry : Type 0
 Entry = EntrySeen ℕ Change
