@@ -16,7 +16,7 @@ use Rattle.shelf.specs.Meanings.{Meanings}
 use Rattle.shelf.specs.OpenRaise.{has_open_raise}
 use Rattle.shelf.specs.Readiness.{Initialises}
 use Rattle.shelf.proofs.LegalLemmas.{Legal-empty, Legal-push}
-use Rattle.shelf.proofs.Tests.{both_parts, never, not_true}
+use Rattle.shelf.proofs.Bools.{both_parts, never, not_true}
 
 module _ {V T : Type 0} (before : List (EntrySeen V T)) (e : EntrySeen V T) where
   abbrev has_update : Bool

@@ -10,7 +10,7 @@ use Rattle.hist_journal.specs.Kinds.{is_change}
 use Rattle.shelf.specs.declared.store.Store.{Store}
 use Rattle.shelf.specs.Images.{is_synced, has_synced, kept_front, unkept, main_at, changed_mains, images}
 use Rattle.shelf.specs.Meanings.{Meanings}
-use Rattle.shelf.proofs.Tests.{never, or_second}
+use Rattle.shelf.proofs.Bools.{never, or_second}
 
 -- a choice between lists, with more at the end
 chosen_more : {X : Type 0} (b : Bool) (longer short list more : List X) → longer ≡ short ++ more → cond b longer (list ++ more) ≡ cond b short list ++ more

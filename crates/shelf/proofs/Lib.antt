@@ -1,3 +1,4 @@
+pub mod Bools
 pub mod EntryByEntry
 pub mod FreshLemmas
 pub mod ImageLemmas
@@ -5,5 +6,4 @@ pub mod LawfulExamples
 pub mod LegalLemmas
 pub mod PendingLemmas
 pub mod RaiseLemmas
-pub mod Tests
 pub mod UnlawfulExamples

@@ -15,7 +15,7 @@ use Rattle.shelf.specs.Legal.{Fits, Legal}
 use Rattle.shelf.specs.Meanings.{Meanings}
 use Rattle.shelf.specs.OpenRaise.{spends, is_open_raise, has_open_raise}
 use Rattle.shelf.proofs.RaiseLemmas.{open_is_pending}
-use Rattle.shelf.proofs.Tests.{never, or_second}
+use Rattle.shelf.proofs.Bools.{never, or_second}
 
 itself : (call : CallId) → is_call call call ≡ true
 itself call = grind (arith, nat_tests)

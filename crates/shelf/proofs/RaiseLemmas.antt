@@ -8,7 +8,7 @@ use Rattle.hist_journal.specs.declared.seen.EntrySeen.{EntrySeen}
 use Rattle.hist_journal.specs.Kinds.{is_call, is_raise, is_change, is_fault, is_death_of}
 use Rattle.hist_journal.specs.Quiet.{ends, has_raise, pending}
 use Rattle.shelf.specs.Entries.{some_entry, is_own}
-use Rattle.shelf.proofs.Tests.{both_parts, not_true, or_either, or_second}
+use Rattle.shelf.proofs.Bools.{both_parts, not_true, or_either, or_second}
 use Rattle.shelf.specs.OpenRaise.{spends, is_open_raise, has_open_raise}
 
 -- a stronger test passes nothing where the weaker passes nothing

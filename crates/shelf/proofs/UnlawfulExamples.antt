@@ -13,7 +13,7 @@ use Rattle.shelf.specs.ExampleStore.{meanings, empty, holds_one, a, b, n1, n2}
 use Rattle.shelf.specs.Legal.{Legal}
 use Rattle.shelf.specs.OpenRaise.{has_open_raise}
 use Rattle.shelf.specs.UnlawfulExamples as unlawful
-use Rattle.shelf.proofs.Tests.{never}
+use Rattle.shelf.proofs.Bools.{never}
 
 pub no-another_raise : Legal meanings empty unlawful.another_raise → ⊥
 unfolding is_dead is_ready last_mark has_open_raise value_of value_after edited applied_or
