@@ -1,5 +1,5 @@
--- How a history that is written down is shown lawful, entry by entry.
-use Rattle.std.proofs.Common.{◌≡◌, inl, Bool, true, false, ◌&&◌, not, List, [], ◌∷◌, ◌++◌, append_assoc, append-nil, if◌then◌else◌}
+-- When an entry fits: where it has its place, and what its kind needs.
+use Rattle.std.proofs.Common.{◌≡◌, inl, Bool, true, false, ◌&&◌, not, List, if◌then◌else◌}
 use Rattle.std.specs.List.{list_any}
 use Rattle.store_traits.specs.declared.ids.CallId.{CallId}
 use Rattle.hist_journal.specs.declared.seen.EntrySeen.{EntrySeen}
@@ -11,11 +11,10 @@ use Rattle.shelf.specs.CallOrder.{EndsUpdate, KeepsOrder, is_later, is_ended_upd
 use Rattle.shelf.specs.Changes.{ChangesValue, KeepsValue, ReplacesUnreadable}
 use Rattle.shelf.specs.Entries.{some_entry, is_own, is_update, is_fault_or_death, is_update_end}
 use Rattle.shelf.specs.FaultCounts.{IsNewCount}
-use Rattle.shelf.specs.Legal.{Fits, Legal, value_at}
+use Rattle.shelf.specs.Legal.{Fits, value_at}
 use Rattle.shelf.specs.Meanings.{Meanings}
 use Rattle.shelf.specs.OpenRaise.{has_open_raise}
 use Rattle.shelf.specs.Readiness.{Initialises}
-use Rattle.shelf.proofs.LegalLemmas.{Legal-empty, Legal-push}
 use Rattle.shelf.proofs.Bools.{both_parts, never, not_true}
 
 module _ {V T : Type 0} (before : List (EntrySeen V T)) (e : EntrySeen V T) where
@@ -87,16 +86,5 @@ module _ {V T M : Type 0} (m : Meanings V T) (s : Store V M) where
     fits_so (Death node) p n = record { value = tt; raised = never; lifetimes = record { lives = p.lives; named = n }; order = p.order; readiness = tt; settings = tt; counts = tt }
     fits_so (Restart node) p n = record { value = tt; raised = never; lifetimes = record { lives = p.lives; named = n }; order = p.order; readiness = tt; settings = tt; counts = tt }
 
-  -- each entry of the rest is placed and has what it needs
-  abbrev pub EachFits : List (EntrySeen V T) → List (EntrySeen V T) → Type 0
-  EachFits before [] = Unit {0}
-  EachFits before (e ∷ es) = (is_placed before e ≡ true) × Needs before e.who e.kind × EachFits (before ++ e ∷ []) es
-
-  Legal-rest : (before rest : List (EntrySeen V T)) → Legal m s before → EachFits before rest → Legal m s (before ++ rest)
-  Legal-rest before [] legal each = rw append-nil legal
-  Legal-rest before (e ∷ es) legal each =
-      let fits : Fits m s before e = fits_so before e.who e.kind (placed before e each.0) each.1 in
-      rw (← append_assoc before (e ∷ []) es) (Legal-rest (before ++ e ∷ []) es (Legal-push m s before e legal fits) each.2)
-
-  pub Legal-each : (list : List (EntrySeen V T)) → EachFits [] list → Legal m s list
-  Legal-each list each = Legal-rest [] list (Legal-empty m s) each
+  pub fits_where : (before : List (EntrySeen V T)) (e : EntrySeen V T) → is_placed before e ≡ true → Needs before e.who e.kind → Fits m s before e
+  fits_where before e place needs = fits_so before e.who e.kind (placed before e place) needs

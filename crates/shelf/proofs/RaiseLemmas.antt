@@ -40,7 +40,7 @@ module _ {V T : Type 0} where
   unspent : (call : CallId) (e : EntrySeen V T) → spends call e ≡ false → (is_raise e.kind ≡ false) × (ends call e ≡ false)
   unspent call e is = unspent_parts (is_raise e.kind) (is_change e.kind) (is_call call e.who) (is_fault e.kind) (is_death_of call.node e.kind) is
 
-  raise_of_open : (call : CallId) (e : EntrySeen V T) (behind : List (EntrySeen V T)) → is_open_raise call e behind ≡ true
+  pub raise_of_open : (call : CallId) (e : EntrySeen V T) (behind : List (EntrySeen V T)) → is_open_raise call e behind ≡ true
       → (call ≡ e.who) × (is_raise e.kind ≡ true) × (list_any (spends call) behind ≡ false)
   raise_of_open call e behind is =
       let parts : (is_own is_raise call e ≡ true) × (not (list_any (spends call) behind) ≡ true) = both_parts (is_own is_raise call e) (not (list_any (spends call) behind)) is in

@@ -9,7 +9,7 @@ use Rattle.hist_journal.specs.declared.seen.KindSeen.TheVariants.{Raise, Edit, S
 use Rattle.hist_journal.specs.Folds.{value_of, value_after, edited, applied_or}
 use Rattle.hist_journal.specs.Nodes.{is_dead, is_ready, last_mark}
 use Rattle.shelf.specs.declared.examples.Change.TheVariants.{Set, Add}
-use Rattle.shelf.specs.ExampleStore.{meanings, empty, holds_one, a, b, n1, n2}
+use Rattle.shelf.specs.ExampleStore.{meanings, empty, holds_one, a, b, c, n1, n2}
 use Rattle.shelf.specs.Legal.{Legal}
 use Rattle.shelf.specs.OpenRaise.{has_open_raise}
 use Rattle.shelf.specs.UnlawfulExamples as unlawful
@@ -122,3 +122,9 @@ unfolding is_dead is_ready last_mark has_open_raise value_of value_after edited 
 no-settings_taken legal =
     let fits = legal.each (a 1 Raise ∷ []) (a 1 (Migrate [] 1)) [] refl in
     absurd fits.settings
+
+pub no-former_life : Legal meanings empty unlawful.former_life → ⊥
+unfolding is_dead is_ready last_mark has_open_raise value_of value_after edited applied_or
+no-former_life legal =
+    let fits = legal.each (a 1 (Inited n1) ∷ a 1 Raise ∷ c 1 (Death n1) ∷ b 1 (Restart n1) ∷ []) (a 1 (Edit (Set 1))) [] refl in
+    never (fits.raised refl)

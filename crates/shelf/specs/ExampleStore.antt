@@ -72,3 +72,7 @@ a number kind = record { who = record { node = n1; client = record { 0 = 1 }; nu
 -- of client b, which is on n2
 abbrev pub b : ℕ → KindSeen ℕ Change → Entry
 b number kind = record { who = record { node = n2; client = record { 0 = 2 }; number = number }; kind = kind }
+
+-- of client c, which is on n1 too
+abbrev pub c : ℕ → KindSeen ℕ Change → Entry
+c number kind = record { who = record { node = n1; client = record { 0 = 3 }; number = number }; kind = kind }

@@ -3,7 +3,7 @@ use Rattle.std.specs.Prelude.{List, [], ◌∷◌}
 use Rattle.hist_journal.specs.declared.device.Device.TheVariants.{Folder}
 use Rattle.hist_journal.specs.declared.seen.KindSeen.TheVariants.{Raise, Edit, Same, Replace, Synced, Inited, Fault, Death, Restart}
 use Rattle.shelf.specs.declared.examples.Change.TheVariants.{Set, Add}
-use Rattle.shelf.specs.ExampleStore.{Entry, a, b, n1, n2}
+use Rattle.shelf.specs.ExampleStore.{Entry, a, b, c, n1, n2}
 
 -- two nodes add 1, one after the other
 abbrev pub two_nodes : List Entry
@@ -44,3 +44,7 @@ replaced = a 1 Raise ∷ a 1 (Replace 0) ∷ a 1 Synced ∷ a 1 (Inited n1) ∷ 
 -- a node dies, is brought back by another, and updates
 abbrev pub restarted : List Entry
 restarted = a 1 (Inited n1) ∷ a 1 (Death n1) ∷ b 1 (Restart n1) ∷ a 2 (Inited n1) ∷ a 2 Raise ∷ a 2 (Edit (Set 2)) ∷ a 2 Synced ∷ []
+
+-- a node dies in one call between the raise and the rename of another, and is brought back
+abbrev pub former_life : List Entry
+former_life = a 1 (Inited n1) ∷ a 1 Raise ∷ c 1 (Death n1) ∷ b 1 (Restart n1) ∷ []

@@ -1,8 +1,9 @@
 -- Whether a call may change the value: its own Raise is the last one, and nothing behind has spent it.
-use Rattle.std.specs.Prelude.{Bool, ◌&&◌, ◌||◌, not, List}
+use Rattle.std.specs.Prelude.{◌≡◌, Bool, false, ◌∷◌, ◌++◌, ◌&&◌, ◌||◌, not, List}
 use Rattle.std.specs.List.{list_any}
 use Rattle.store_traits.specs.declared.ids.CallId.{CallId}
 use Rattle.hist_journal.specs.declared.seen.EntrySeen.{EntrySeen}
+use Rattle.hist_journal.specs.declared.seen.KindSeen.TheVariants.{Raise}
 use Rattle.hist_journal.specs.Kinds.{is_raise, is_change, is_fault, is_death_of}
 use Rattle.shelf.specs.Entries.{some_entry, is_own}
 
@@ -17,3 +18,10 @@ module _ {V T : Type 0} where
 
   unfoldable pub has_open_raise : CallId → List (EntrySeen V T) → Bool
   has_open_raise call list = some_entry (is_open_raise call) list
+
+  -- the same in words: a Raise of the call, and entries behind it that do not spend it
+  pub record EndsInRaise (call : CallId) (list : List (EntrySeen V T)) : Type 0 where
+    pub before : List (EntrySeen V T)
+    pub behind : List (EntrySeen V T)
+    pub is : list ≡ before ++ record { who = call; kind = Raise } ∷ behind
+    pub unspent : list_any (spends call) behind ≡ false

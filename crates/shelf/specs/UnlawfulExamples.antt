@@ -3,7 +3,7 @@ use Rattle.std.specs.Prelude.{List, [], ◌∷◌}
 use Rattle.hist_journal.specs.declared.device.Device.TheVariants.{Folder}
 use Rattle.hist_journal.specs.declared.seen.KindSeen.TheVariants.{Raise, Edit, Same, Replace, Migrate, Synced, Inited, Fault, Death, Restart}
 use Rattle.shelf.specs.declared.examples.Change.TheVariants.{Set, Add}
-use Rattle.shelf.specs.ExampleStore.{Entry, a, b, n1, n2}
+use Rattle.shelf.specs.ExampleStore.{Entry, a, b, c, n1, n2}
 
 -- a call changes the value behind the Raise of another
 abbrev pub another_raise : List Entry
@@ -76,3 +76,7 @@ count_stays = a 1 (Fault Folder 1) ∷ a 2 (Fault Folder 1) ∷ []
 -- old settings are taken over, which is not lawful yet
 abbrev pub settings_taken : List Entry
 settings_taken = a 1 Raise ∷ a 1 (Migrate [] 1) ∷ []
+
+-- a call of a node's former life changes the value
+abbrev pub former_life : List Entry
+former_life = a 1 (Inited n1) ∷ a 1 Raise ∷ c 1 (Death n1) ∷ b 1 (Restart n1) ∷ a 1 (Edit (Set 1)) ∷ []

@@ -31,6 +31,7 @@ pub fn histories_are_lawful()
     ensures greatest { Legal example.meanings example.empty lawful.greatest }
     ensures replaced { Legal example.meanings example.unreadable lawful.replaced }
     ensures restarted { Legal example.meanings example.empty lawful.restarted }
+    ensures former_life { Legal example.meanings example.empty lawful.former_life }
 {}
 
 /// What the lawful ones come to: the value and how often it changed, and what a machine stop may leave.
@@ -55,6 +56,7 @@ pub fn stores_have_their_base()
 
 /// None of these is lawful: of each, the last entry does not fit.
 pub fn histories_are_unlawful()
+    ensures former_life { Legal example.meanings example.empty unlawful.former_life → ⊥ }
     ensures another_raise { Legal example.meanings example.empty unlawful.another_raise → ⊥ }
     ensures no_raise { Legal example.meanings example.empty unlawful.no_raise → ⊥ }
     ensures two_edits { Legal example.meanings example.empty unlawful.two_edits → ⊥ }

@@ -5,6 +5,7 @@
 
 mod examples;
 mod laws;
+mod order_laws;
 mod store;
 #[cfg(test)]
 mod tests;
@@ -13,4 +14,7 @@ pub use examples::{
     Change, histories_are_lawful, histories_are_unlawful, histories_come_to, stores_have_their_base,
 };
 pub use laws::{images_go_on, longer_is_legal, open_is_pending, prefix_is_legal, quiet_is_fresh};
+pub use order_laws::{
+    calls_end, changes_are_raised, counts_rise, numbers_never_fall, updates_end_once,
+};
 pub use store::{DeviceStart, Limits, PlannedDeath, SectionSeen, Store};

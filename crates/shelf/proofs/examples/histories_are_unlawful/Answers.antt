@@ -22,4 +22,5 @@ returns c =
       numbers_fall = shown.no-numbers_fall;
       count_stays = shown.no-count_stays;
       settings_taken = shown.no-settings_taken;
+      former_life = shown.no-former_life;
     }
