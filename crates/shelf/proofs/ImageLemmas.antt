@@ -1,14 +1,16 @@
 -- What a machine stop may leave, after one more entry.
-use Rattle.std.proofs.Common.{◌≡◌, ◌∙◌, Bool, true, false, ◌||◌, List, [], ◌∷◌, ◌++◌, refl, ap, cond, append_assoc, append-nil}
+use Rattle.std.proofs.Common.{◌≡◌, ◌∙◌, Bool, true, false, ◌||◌, List, [], ◌∷◌, ◌++◌, refl, ap, cond, append_assoc, append-nil, ℕ, sym, Option, All}
 use Rattle.std.proofs.Math.Bool.{or-false}
 use Rattle.std.proofs.lemmas.List.Folds.{list_any-append}
+use Rattle.std.proofs.lemmas.Bool.{or_parts}
+use Rattle.std.proofs.lemmas.List.Elements.{All-cons, All-nil}
 use Rattle.hist_journal.specs.declared.seen.EntrySeen.{EntrySeen}
 use Rattle.hist_journal.specs.declared.seen.KindSeen.{KindSeen}
 use Rattle.hist_journal.specs.declared.seen.KindSeen.TheVariants.{Synced}
 use Rattle.hist_journal.specs.Folds.{edition_of, main_of}
 use Rattle.hist_journal.specs.Kinds.{is_change}
 use Rattle.shelf.specs.declared.store.Store.{Store}
-use Rattle.shelf.specs.Images.{is_synced, has_synced, kept_front, unkept, main_at, changed_mains, images}
+use Rattle.shelf.specs.Images.{IsMainSinceSynced, is_synced, has_synced, kept_front, unkept, main_at, changed_mains, images}
 use Rattle.shelf.specs.Meanings.{Meanings}
 use Rattle.shelf.proofs.Bools.{never, or_second}
 
@@ -70,6 +72,15 @@ module _ {V T : Type 0} where
       ap (λ b. cond b (unkept (xs ++ e ∷ [])) (x ∷ (xs ++ e ∷ []))) has
       ∙ chosen_more (has_synced (x ∷ xs)) (unkept (xs ++ e ∷ [])) (unkept xs) (x ∷ xs) (e ∷ []) (unkept-other xs e other)
 
+  rest_unsynced : (b : Bool) (rest list : List (EntrySeen V T)) → has_synced list ≡ b → has_synced rest ≡ false → has_synced (cond b rest list) ≡ false
+  rest_unsynced true rest list is unsynced = unsynced
+  rest_unsynced false rest list is unsynced = is
+
+  unkept-unsynced : (list : List (EntrySeen V T)) → has_synced (unkept list) ≡ false
+  unfolding unkept
+  unkept-unsynced [] = refl
+  unkept-unsynced (x ∷ xs) = rest_unsynced (has_synced (x ∷ xs)) (unkept xs) (x ∷ xs) refl (unkept-unsynced xs)
+
   change_is_not_synced : (kind : KindSeen V T) → is_change kind ≡ true → is_synced kind ≡ false
   change_is_not_synced Synced change = never change
   change_is_not_synced other change = refl
@@ -114,3 +125,26 @@ module _ {V T M : Type 0} (m : Meanings V T) (s : Store V M) where
   images-other list e still other =
       images-push list e other
       ∙ (ap (λ b. images m s list ++ cond b (main_at m s (list ++ e ∷ []) ∷ []) []) still ∙ append-nil (images m s list))
+
+  IsMainSinceSynced-cons : (list : List (EntrySeen V T)) (b : Bool) (image : Option (List ℕ)) (rest : List (Option (List ℕ)))
+      → IsMainSinceSynced m s list image → All (IsMainSinceSynced m s list) rest → All (IsMainSinceSynced m s list) (cond b (image ∷ rest) rest)
+  IsMainSinceSynced-cons list true image rest here later = All-cons (IsMainSinceSynced m s list) image rest here later
+  IsMainSinceSynced-cons list false image rest here later = later
+
+  changed_mains_are : (list before rest : List (EntrySeen V T)) → list ≡ before ++ rest → has_synced rest ≡ false → All (IsMainSinceSynced m s list) (changed_mains m s before rest)
+  unfolding changed_mains
+  changed_mains_are list before [] is synced = All-nil (IsMainSinceSynced m s list)
+  changed_mains_are list before (e ∷ es) is synced =
+      let later : has_synced es ≡ false = (or_parts (is_synced e.kind) (has_synced es) synced).1 in
+      let parts : list ≡ (before ++ e ∷ []) ++ es = is ∙ sym (append_assoc before (e ∷ []) es) in
+      IsMainSinceSynced-cons list (is_change e.kind) (main_at m s (before ++ e ∷ [])) (changed_mains m s (before ++ e ∷ []) es)
+      (record { front = before ++ e ∷ []; back = es; is = parts; synced = later; main = refl })
+      (changed_mains_are list (before ++ e ∷ []) es parts later)
+
+  pub images-since_synced : (list : List (EntrySeen V T)) → All (IsMainSinceSynced m s list) (images m s list)
+  unfolding images
+  images-since_synced list =
+      let parts : list ≡ kept_front list ++ unkept list = sym (kept_front-unkept list) in
+      All-cons (IsMainSinceSynced m s list) (main_at m s (kept_front list)) (changed_mains m s (kept_front list) (unkept list))
+      (record { front = kept_front list; back = unkept list; is = parts; synced = unkept-unsynced list; main = refl })
+      (changed_mains_are list (kept_front list) (unkept list) parts (unkept-unsynced list))

@@ -8,7 +8,7 @@ use Rattle.hist_journal.specs.declared.seen.BaseSeen.TheVariants.{Held, Corrupt}
 use Rattle.hist_journal.specs.declared.seen.KindSeen.TheVariants.{Raise, Edit, Same, Replace, Migrate, Synced, Inited, Fault, Death, Restart}
 use Rattle.hist_journal.specs.Folds.{value_of, value_after, edited, applied_or}
 use Rattle.hist_journal.specs.Nodes.{is_dead, is_ready, last_mark}
-use Rattle.shelf.specs.declared.examples.Change.TheVariants.{Set, Add}
+use Rattle.shelf.specs.declared.examples.ExampleEdit.TheVariants.{Set, Add}
 use Rattle.shelf.specs.ExampleStore.{meanings, empty, holds_one, a, b, c, n1, n2}
 use Rattle.shelf.specs.Legal.{Legal}
 use Rattle.shelf.specs.OpenRaise.{has_open_raise}

@@ -7,17 +7,17 @@ use Rattle.hist_journal.specs.declared.seen.BaseSeen.{BaseSeen}
 use Rattle.hist_journal.specs.declared.seen.BaseSeen.TheVariants.{Held, Corrupt, TooLong}
 use Rattle.hist_journal.specs.declared.seen.EntrySeen.{EntrySeen}
 use Rattle.hist_journal.specs.declared.seen.KindSeen.{KindSeen}
-use Rattle.shelf.specs.declared.examples.Change.{Change}
-use Rattle.shelf.specs.declared.examples.Change.TheVariants.{Set, Add}
+use Rattle.shelf.specs.declared.examples.ExampleEdit.{ExampleEdit}
+use Rattle.shelf.specs.declared.examples.ExampleEdit.TheVariants.{Set, Add}
 use Rattle.shelf.specs.declared.store.Store.{Store}
 use Rattle.shelf.specs.Meanings.{Meanings}
 
-abbrev pub after : Change → ℕ → Applied ℕ
+abbrev pub after : ExampleEdit → ℕ → Applied ℕ
 after (Set n) old = Changed n
 after (Add n) old = if nat_le (old + n) (2 ^ 31 - 1) then Changed (old + n) else Refused 2
 
 -- a file has the number as its one byte
-abbrev pub meanings : Meanings ℕ Change
+abbrev pub meanings : Meanings ℕ ExampleEdit
 meanings = record { after = after; encoded = λ n. n ∷ [] }
 
 abbrev pub reads : List ℕ → ℕ → Type 0
@@ -63,16 +63,16 @@ abbrev pub too_long : Store ℕ (Unit {0})
 too_long = record unreadable { base = TooLong 2; limits = record { file = 1; history = record { entries = 100000; weight = 67108864 } } }
 
 abbrev pub Entry : Type 0
-Entry = EntrySeen ℕ Change
+Entry = EntrySeen ℕ ExampleEdit
 
 -- the call with this number of client a, which is on n1
-abbrev pub a : ℕ → KindSeen ℕ Change → Entry
+abbrev pub a : ℕ → KindSeen ℕ ExampleEdit → Entry
 a number kind = record { who = record { node = n1; client = record { 0 = 1 }; number = number }; kind = kind }
 
 -- of client b, which is on n2
-abbrev pub b : ℕ → KindSeen ℕ Change → Entry
+abbrev pub b : ℕ → KindSeen ℕ ExampleEdit → Entry
 b number kind = record { who = record { node = n2; client = record { 0 = 2 }; number = number }; kind = kind }
 
 -- of client c, which is on n1 too
-abbrev pub c : ℕ → KindSeen ℕ Change → Entry
+abbrev pub c : ℕ → KindSeen ℕ ExampleEdit → Entry
 c number kind = record { who = record { node = n1; client = record { 0 = 3 }; number = number }; kind = kind }

@@ -1,5 +1,5 @@
 -- What a machine stop may leave as main after a history.
-use Rattle.std.specs.Prelude.{ℕ, Bool, true, false, List, [], ◌∷◌, ◌++◌, Option, if◌then◌else◌}
+use Rattle.std.specs.Prelude.{◌≡◌, ℕ, Bool, true, false, List, [], ◌∷◌, ◌++◌, Option, if◌then◌else◌}
 use Rattle.std.specs.List.{list_any}
 use Rattle.hist_journal.specs.declared.seen.EntrySeen.{EntrySeen}
 use Rattle.hist_journal.specs.declared.seen.KindSeen.{KindSeen}
@@ -40,3 +40,11 @@ module _ {V T M : Type 0} (m : Meanings V T) (s : Store V M) where
   -- main up to the last Synced, and then main up to each value change behind it
   unfoldable pub images : List (EntrySeen V T) → List (Option (List ℕ))
   images list = main_at (kept_front list) ∷ changed_mains (kept_front list) (unkept list)
+
+  -- main after a prefix of the list that has all its Synced entries
+  pub record IsMainSinceSynced (list : List (EntrySeen V T)) (image : Option (List ℕ)) : Type 0 where
+    pub front : List (EntrySeen V T)
+    pub back : List (EntrySeen V T)
+    pub is : list ≡ front ++ back
+    pub synced : has_synced back ≡ false
+    pub main : image ≡ main_at front

@@ -2,7 +2,7 @@
 use Rattle.std.specs.Prelude.{List, [], ◌∷◌}
 use Rattle.hist_journal.specs.declared.device.Device.TheVariants.{Folder}
 use Rattle.hist_journal.specs.declared.seen.KindSeen.TheVariants.{Raise, Edit, Same, Replace, Synced, Inited, Fault, Death, Restart}
-use Rattle.shelf.specs.declared.examples.Change.TheVariants.{Set, Add}
+use Rattle.shelf.specs.declared.examples.ExampleEdit.TheVariants.{Set, Add}
 use Rattle.shelf.specs.ExampleStore.{Entry, a, b, c, n1, n2}
 
 -- two nodes add 1, one after the other

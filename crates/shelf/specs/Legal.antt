@@ -20,14 +20,20 @@ module _ {V T M : Type 0} (m : Meanings V T) (s : Store V M) where
 
   -- the entry may stand behind these
   pub record Fits (before : List (EntrySeen V T)) (e : EntrySeen V T) : Type 0 where
+    -- what it makes of the value
     pub value : MakesValue m.after s.handler (value_at before) e.kind
     -- a value change comes only by the call whose Raise is open
     pub raised : is_change e.kind ≡ true → has_open_raise e.who before ≡ true
+    -- its node lives, and it names the right one
     pub lifetimes : KeepsLifetimes before e
+    -- its call and its client may still have it
     pub order : KeepsOrder before e
+    -- its node is initialised, or is not, as its kind needs
     pub readiness : KeepsReadiness (value_at before) before e.who e.kind
     pub settings : LeavesOldSettings e.kind
+    -- the count of its device rose
     pub counts : RaisesCount s before e.kind
 
+  -- each entry fits the entries before it
   pub record Legal (list : List (EntrySeen V T)) : Type 0 where
     pub each : (before : List (EntrySeen V T)) (e : EntrySeen V T) (behind : List (EntrySeen V T)) → list ≡ before ++ e ∷ behind → Fits before e

@@ -4,7 +4,7 @@ ghost use Rattle.std.specs.Prelude.{◌≡◌, ◌∷◌, [], Some, None};
 ghost use Rattle.store_traits.specs.declared.applied.Applied.TheVariants.{Refused};
 ghost use Rattle.hist_journal.specs.declared.seen.BaseSeen.TheVariants.{Held};
 ghost use Rattle.hist_journal.specs.Folds.{edition_of};
-ghost use Rattle.shelf.specs.declared.examples.Change.TheVariants.{Add};
+ghost use Rattle.shelf.specs.declared.examples.ExampleEdit.TheVariants.{Add};
 ghost use Rattle.shelf.specs.Base.{HasItsBase};
 ghost use Rattle.shelf.specs.Images.{images};
 ghost use Rattle.shelf.specs.Legal.{Legal, value_at};
@@ -13,7 +13,7 @@ ghost use Rattle.shelf.specs.LawfulExamples as lawful;
 ghost use Rattle.shelf.specs.UnlawfulExamples as unlawful;
 
 /// What an update of the example does with the number.
-pub enum Change {
+pub enum ExampleEdit {
     Set(u64),
     /// Refused with code 2 where the sum passes 2^31 - 1.
     Add(u64),

@@ -1,5 +1,6 @@
 //! What holds of every lawful history: each law is the contract of a function that does nothing. `m` is what transforms
 //! and values mean, and `s` the store.
+ghost use Rattle.std.specs.List.{All};
 ghost use Rattle.std.specs.Prelude.{◌≡◌, ◌↔◌, ◌++◌, ◌∷◌, [], List, Some, true, false};
 ghost use Rattle.store_traits.specs.declared.ids.CallId.{CallId};
 ghost use Rattle.hist_journal.specs.declared.seen.EntrySeen.{EntrySeen};
@@ -7,7 +8,7 @@ ghost use Rattle.hist_journal.specs.Folds.{edition_of, raises_of, value_of};
 ghost use Rattle.hist_journal.specs.Kinds.{is_change};
 ghost use Rattle.hist_journal.specs.Quiet.{Quiet, pending};
 ghost use Rattle.shelf.specs.declared.store.Store.{Store};
-ghost use Rattle.shelf.specs.Images.{images, is_synced, kept_front, main_at, unkept};
+ghost use Rattle.shelf.specs.Images.{IsMainSinceSynced, images, is_synced, kept_front, main_at, unkept};
 ghost use Rattle.shelf.specs.Legal.{Fits, Legal};
 ghost use Rattle.shelf.specs.Meanings.{Meanings};
 ghost use Rattle.shelf.specs.OpenRaise.{has_open_raise};
@@ -48,4 +49,9 @@ pub fn images_go_on<V, T, M>()
     ensures change { (m : Meanings V T) (s : Store V M) (list : List (EntrySeen V T)) (e : EntrySeen V T) → is_change e.kind ≡ true → images m s (list ++ e ∷ []) ≡ images m s list ++ main_at m s (list ++ e ∷ []) ∷ [] }
     ensures other { (m : Meanings V T) (s : Store V M) (list : List (EntrySeen V T)) (e : EntrySeen V T) → is_change e.kind ≡ false → is_synced e.kind ≡ false → images m s (list ++ e ∷ []) ≡ images m s list }
     ensures parts { (list : List (EntrySeen V T)) → kept_front list ++ unkept list ≡ list }
+{}
+
+/// Each of them is main after a prefix that has every Synced of the history: what was acknowledged is in it.
+pub fn images_hold_what_is_synced<V, T, M>()
+    ensures { (m : Meanings V T) (s : Store V M) (list : List (EntrySeen V T)) → All (IsMainSinceSynced m s list) (images m s list) }
 {}

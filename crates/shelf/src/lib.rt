@@ -11,9 +11,13 @@ mod store;
 mod tests;
 
 pub use examples::{
-    Change, histories_are_lawful, histories_are_unlawful, histories_come_to, stores_have_their_base,
+    ExampleEdit, histories_are_lawful, histories_are_unlawful, histories_come_to,
+    stores_have_their_base,
 };
-pub use laws::{images_go_on, longer_is_legal, open_is_pending, prefix_is_legal, quiet_is_fresh};
+pub use laws::{
+    images_go_on, images_hold_what_is_synced, longer_is_legal, open_is_pending, prefix_is_legal,
+    quiet_is_fresh,
+};
 pub use order_laws::{
     calls_end, changes_are_raised, counts_rise, numbers_never_fall, updates_end_once,
 };
