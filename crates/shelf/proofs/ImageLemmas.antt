@@ -85,66 +85,66 @@ module _ {V T : Type 0} where
   change_is_not_synced Synced change = never change
   change_is_not_synced other change = refl
 
-module _ {V T M : Type 0} (m : Meanings V T) (s : Store V M) where
-  changed_mains-append : (before xs ys : List (EntrySeen V T)) → changed_mains m s before (xs ++ ys) ≡ changed_mains m s before xs ++ changed_mains m s (before ++ xs) ys
+module _ {V T M : Type 0} (m : Meanings V T) (encoded : V → List ℕ) (s : Store V M) where
+  changed_mains-append : (before xs ys : List (EntrySeen V T)) → changed_mains m encoded s before (xs ++ ys) ≡ changed_mains m encoded s before xs ++ changed_mains m encoded s (before ++ xs) ys
   unfolding changed_mains
   changed_mains-append before [] ys = rw append-nil refl
   changed_mains-append before (x ∷ xs) ys =
-      let rest : changed_mains m s (before ++ x ∷ []) (xs ++ ys) ≡ changed_mains m s (before ++ x ∷ []) xs ++ changed_mains m s (before ++ x ∷ xs) ys =
-      changed_mains-append (before ++ x ∷ []) xs ys ∙ ap (λ l. changed_mains m s (before ++ x ∷ []) xs ++ changed_mains m s l ys) (append_assoc before (x ∷ []) xs)
+      let rest : changed_mains m encoded s (before ++ x ∷ []) (xs ++ ys) ≡ changed_mains m encoded s (before ++ x ∷ []) xs ++ changed_mains m encoded s (before ++ x ∷ xs) ys =
+      changed_mains-append (before ++ x ∷ []) xs ys ∙ ap (λ l. changed_mains m encoded s (before ++ x ∷ []) xs ++ changed_mains m encoded s l ys) (append_assoc before (x ∷ []) xs)
       in
-      first_more (is_change x.kind) (main_at m s (before ++ x ∷ [])) (changed_mains m s (before ++ x ∷ []) (xs ++ ys)) (changed_mains m s (before ++ x ∷ []) xs) (changed_mains m s (before ++ x ∷ xs) ys) rest
+      first_more (is_change x.kind) (main_at m encoded s (before ++ x ∷ [])) (changed_mains m encoded s (before ++ x ∷ []) (xs ++ ys)) (changed_mains m encoded s (before ++ x ∷ []) xs) (changed_mains m encoded s (before ++ x ∷ xs) ys) rest
 
-  pub images-empty : images m s [] ≡ s.main ∷ []
+  pub images-empty : images m encoded s [] ≡ s.main ∷ []
   unfolding images kept_front unkept changed_mains main_of edition_of
   images-empty = refl
 
-  pub images-synced : (list : List (EntrySeen V T)) (e : EntrySeen V T) → is_synced e.kind ≡ true → images m s (list ++ e ∷ []) ≡ main_at m s (list ++ e ∷ []) ∷ []
+  pub images-synced : (list : List (EntrySeen V T)) (e : EntrySeen V T) → is_synced e.kind ≡ true → images m encoded s (list ++ e ∷ []) ≡ main_at m encoded s (list ++ e ∷ []) ∷ []
   unfolding images changed_mains
   images-synced list e synced =
-      ap (λ back. main_at m s (kept_front (list ++ e ∷ [])) ∷ changed_mains m s (kept_front (list ++ e ∷ [])) back) (unkept-synced list e synced)
-      ∙ ap (λ front. main_at m s front ∷ []) (kept_front-synced list e synced)
+      ap (λ back. main_at m encoded s (kept_front (list ++ e ∷ [])) ∷ changed_mains m encoded s (kept_front (list ++ e ∷ [])) back) (unkept-synced list e synced)
+      ∙ ap (λ front. main_at m encoded s front ∷ []) (kept_front-synced list e synced)
 
   -- an entry that is no Synced leaves the images, and may add one
-  images-push : (list : List (EntrySeen V T)) (e : EntrySeen V T) → is_synced e.kind ≡ false → images m s (list ++ e ∷ []) ≡ images m s list ++ changed_mains m s list (e ∷ [])
+  images-push : (list : List (EntrySeen V T)) (e : EntrySeen V T) → is_synced e.kind ≡ false → images m encoded s (list ++ e ∷ []) ≡ images m encoded s list ++ changed_mains m encoded s list (e ∷ [])
   unfolding images
   images-push list e other =
-      ap (λ front. main_at m s front ∷ changed_mains m s front (unkept (list ++ e ∷ []))) (kept_front-other list e other)
-      ∙ (ap (λ back. main_at m s (kept_front list) ∷ changed_mains m s (kept_front list) back) (unkept-other list e other)
-      ∙ (ap (λ mains. main_at m s (kept_front list) ∷ mains) (changed_mains-append (kept_front list) (unkept list) (e ∷ []))
-      ∙ ap (λ whole. main_at m s (kept_front list) ∷ (changed_mains m s (kept_front list) (unkept list) ++ changed_mains m s whole (e ∷ []))) (kept_front-unkept list)))
+      ap (λ front. main_at m encoded s front ∷ changed_mains m encoded s front (unkept (list ++ e ∷ []))) (kept_front-other list e other)
+      ∙ (ap (λ back. main_at m encoded s (kept_front list) ∷ changed_mains m encoded s (kept_front list) back) (unkept-other list e other)
+      ∙ (ap (λ mains. main_at m encoded s (kept_front list) ∷ mains) (changed_mains-append (kept_front list) (unkept list) (e ∷ []))
+      ∙ ap (λ whole. main_at m encoded s (kept_front list) ∷ (changed_mains m encoded s (kept_front list) (unkept list) ++ changed_mains m encoded s whole (e ∷ []))) (kept_front-unkept list)))
 
-  pub images-change : (list : List (EntrySeen V T)) (e : EntrySeen V T) → is_change e.kind ≡ true → images m s (list ++ e ∷ []) ≡ images m s list ++ main_at m s (list ++ e ∷ []) ∷ []
+  pub images-change : (list : List (EntrySeen V T)) (e : EntrySeen V T) → is_change e.kind ≡ true → images m encoded s (list ++ e ∷ []) ≡ images m encoded s list ++ main_at m encoded s (list ++ e ∷ []) ∷ []
   unfolding changed_mains
   images-change list e change =
       images-push list e (change_is_not_synced e.kind change)
-      ∙ ap (λ b. images m s list ++ cond b (main_at m s (list ++ e ∷ []) ∷ []) []) change
+      ∙ ap (λ b. images m encoded s list ++ cond b (main_at m encoded s (list ++ e ∷ []) ∷ []) []) change
 
-  pub images-other : (list : List (EntrySeen V T)) (e : EntrySeen V T) → is_change e.kind ≡ false → is_synced e.kind ≡ false → images m s (list ++ e ∷ []) ≡ images m s list
+  pub images-other : (list : List (EntrySeen V T)) (e : EntrySeen V T) → is_change e.kind ≡ false → is_synced e.kind ≡ false → images m encoded s (list ++ e ∷ []) ≡ images m encoded s list
   unfolding changed_mains
   images-other list e still other =
       images-push list e other
-      ∙ (ap (λ b. images m s list ++ cond b (main_at m s (list ++ e ∷ []) ∷ []) []) still ∙ append-nil (images m s list))
+      ∙ (ap (λ b. images m encoded s list ++ cond b (main_at m encoded s (list ++ e ∷ []) ∷ []) []) still ∙ append-nil (images m encoded s list))
 
   IsMainSinceSynced-cons : (list : List (EntrySeen V T)) (b : Bool) (image : Option (List ℕ)) (rest : List (Option (List ℕ)))
-      → IsMainSinceSynced m s list image → All (IsMainSinceSynced m s list) rest → All (IsMainSinceSynced m s list) (cond b (image ∷ rest) rest)
-  IsMainSinceSynced-cons list true image rest here later = All-cons (IsMainSinceSynced m s list) image rest here later
+      → IsMainSinceSynced m encoded s list image → All (IsMainSinceSynced m encoded s list) rest → All (IsMainSinceSynced m encoded s list) (cond b (image ∷ rest) rest)
+  IsMainSinceSynced-cons list true image rest here later = All-cons (IsMainSinceSynced m encoded s list) image rest here later
   IsMainSinceSynced-cons list false image rest here later = later
 
-  changed_mains_are : (list before rest : List (EntrySeen V T)) → list ≡ before ++ rest → has_synced rest ≡ false → All (IsMainSinceSynced m s list) (changed_mains m s before rest)
+  changed_mains_are : (list before rest : List (EntrySeen V T)) → list ≡ before ++ rest → has_synced rest ≡ false → All (IsMainSinceSynced m encoded s list) (changed_mains m encoded s before rest)
   unfolding changed_mains
-  changed_mains_are list before [] is synced = All-nil (IsMainSinceSynced m s list)
+  changed_mains_are list before [] is synced = All-nil (IsMainSinceSynced m encoded s list)
   changed_mains_are list before (e ∷ es) is synced =
       let later : has_synced es ≡ false = (or_parts (is_synced e.kind) (has_synced es) synced).1 in
       let parts : list ≡ (before ++ e ∷ []) ++ es = is ∙ sym (append_assoc before (e ∷ []) es) in
-      IsMainSinceSynced-cons list (is_change e.kind) (main_at m s (before ++ e ∷ [])) (changed_mains m s (before ++ e ∷ []) es)
+      IsMainSinceSynced-cons list (is_change e.kind) (main_at m encoded s (before ++ e ∷ [])) (changed_mains m encoded s (before ++ e ∷ []) es)
       (record { front = before ++ e ∷ []; back = es; is = parts; synced = later; main = refl })
       (changed_mains_are list (before ++ e ∷ []) es parts later)
 
-  pub images-since_synced : (list : List (EntrySeen V T)) → All (IsMainSinceSynced m s list) (images m s list)
+  pub images-since_synced : (list : List (EntrySeen V T)) → All (IsMainSinceSynced m encoded s list) (images m encoded s list)
   unfolding images
   images-since_synced list =
       let parts : list ≡ kept_front list ++ unkept list = sym (kept_front-unkept list) in
-      All-cons (IsMainSinceSynced m s list) (main_at m s (kept_front list)) (changed_mains m s (kept_front list) (unkept list))
+      All-cons (IsMainSinceSynced m encoded s list) (main_at m encoded s (kept_front list)) (changed_mains m encoded s (kept_front list) (unkept list))
       (record { front = kept_front list; back = unkept list; is = parts; synced = unkept-unsynced list; main = refl })
       (changed_mains_are list (kept_front list) (unkept list) parts (unkept-unsynced list))

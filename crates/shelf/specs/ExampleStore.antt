@@ -16,12 +16,15 @@ abbrev pub after : ExampleEdit → ℕ → Applied ℕ
 after (Set n) old = Changed n
 after (Add n) old = if nat_le (old + n) (2 ^ 31 - 1) then Changed (old + n) else Refused 2
 
--- a file has the number as its one byte
 abbrev pub meanings : Meanings ℕ ExampleEdit
-meanings = record { after = after; encoded = λ n. n ∷ [] }
+meanings = record { after = after }
+
+-- a file has the number as its one byte
+abbrev pub encoded : ℕ → List ℕ
+encoded n = n ∷ []
 
 abbrev pub reads : List ℕ → ℕ → Type 0
-reads bytes n = bytes ≡ n ∷ []
+reads bytes n = bytes ≡ encoded n
 
 abbrev pub n1 : NodeId
 n1 = record { 0 = 1 }

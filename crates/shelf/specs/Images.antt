@@ -27,10 +27,11 @@ module _ {V T : Type 0} where
   unkept [] = []
   unkept (e ∷ es) = if has_synced (e ∷ es) then unkept es else e ∷ es
 
-module _ {V T M : Type 0} (m : Meanings V T) (s : Store V M) where
+-- `encoded` is how a value is written
+module _ {V T M : Type 0} (m : Meanings V T) (encoded : V → List ℕ) (s : Store V M) where
   -- main after a history of this store
   abbrev pub main_at : List (EntrySeen V T) → Option (List ℕ)
-  main_at list = main_of m.after m.encoded s.base s.main list
+  main_at list = main_of m.after encoded s.base s.main list
 
   -- main after each value change of the rest, of a history that begins with what is before
   unfoldable pub changed_mains : List (EntrySeen V T) → List (EntrySeen V T) → List (Option (List ℕ))

@@ -40,10 +40,10 @@ pub fn histories_come_to()
     ensures equal_value { (value_at example.meanings example.holds_one lawful.equal_value ≡ Held 1) × (edition_of lawful.equal_value ≡ 0) }
     ensures greatest { value_at example.meanings example.empty lawful.greatest ≡ Held 2147483647 }
     ensures refused { example.after (Add 1) 2147483647 ≡ Refused 2 }
-    ensures nothing_yet { images example.meanings example.empty lawful.folder_fails ≡ None ∷ [] }
-    ensures sync_fails { images example.meanings example.empty lawful.sync_fails ≡ None ∷ Some (1 ∷ []) ∷ [] }
-    ensures equal_synced { images example.meanings example.empty lawful.death_after_rename ≡ Some (1 ∷ []) ∷ [] }
-    ensures replaced { images example.meanings example.unreadable lawful.replaced ≡ Some (0 ∷ []) ∷ [] }
+    ensures nothing_yet { images example.meanings example.encoded example.empty lawful.folder_fails ≡ None ∷ [] }
+    ensures sync_fails { images example.meanings example.encoded example.empty lawful.sync_fails ≡ None ∷ Some (1 ∷ []) ∷ [] }
+    ensures equal_synced { images example.meanings example.encoded example.empty lawful.death_after_rename ≡ Some (1 ∷ []) ∷ [] }
+    ensures replaced { images example.meanings example.encoded example.unreadable lawful.replaced ≡ Some (0 ∷ []) ∷ [] }
 {}
 
 /// What main reads as: each of these stores has the base of its main.

@@ -1,7 +1,7 @@
 //! What holds of every lawful history: each law is the contract of a function that does nothing. `m` is what transforms
-//! and values mean, and `s` the store.
+//! mean, `s` the store, and `encoded` how a value is written.
 ghost use Rattle.std.specs.List.{All};
-ghost use Rattle.std.specs.Prelude.{◌≡◌, ◌↔◌, ◌++◌, ◌∷◌, [], List, Some, true, false};
+ghost use Rattle.std.specs.Prelude.{ℕ, ◌≡◌, ◌↔◌, ◌++◌, ◌∷◌, [], List, Some, true, false};
 ghost use Rattle.store_traits.specs.declared.ids.CallId.{CallId};
 ghost use Rattle.hist_journal.specs.declared.seen.EntrySeen.{EntrySeen};
 ghost use Rattle.hist_journal.specs.Folds.{edition_of, raises_of, value_of};
@@ -44,14 +44,14 @@ pub fn quiet_is_fresh<V, T, M>()
 /// What a machine stop may leave, once the history is longer: main alone after a Synced, one more after a value change,
 /// and the same after any other entry.
 pub fn images_go_on<V, T, M>()
-    ensures empty { (m : Meanings V T) (s : Store V M) → images m s [] ≡ s.main ∷ [] }
-    ensures synced { (m : Meanings V T) (s : Store V M) (list : List (EntrySeen V T)) (e : EntrySeen V T) → is_synced e.kind ≡ true → images m s (list ++ e ∷ []) ≡ main_at m s (list ++ e ∷ []) ∷ [] }
-    ensures change { (m : Meanings V T) (s : Store V M) (list : List (EntrySeen V T)) (e : EntrySeen V T) → is_change e.kind ≡ true → images m s (list ++ e ∷ []) ≡ images m s list ++ main_at m s (list ++ e ∷ []) ∷ [] }
-    ensures other { (m : Meanings V T) (s : Store V M) (list : List (EntrySeen V T)) (e : EntrySeen V T) → is_change e.kind ≡ false → is_synced e.kind ≡ false → images m s (list ++ e ∷ []) ≡ images m s list }
+    ensures empty { (m : Meanings V T) (encoded : V → List ℕ) (s : Store V M) → images m encoded s [] ≡ s.main ∷ [] }
+    ensures synced { (m : Meanings V T) (encoded : V → List ℕ) (s : Store V M) (list : List (EntrySeen V T)) (e : EntrySeen V T) → is_synced e.kind ≡ true → images m encoded s (list ++ e ∷ []) ≡ main_at m encoded s (list ++ e ∷ []) ∷ [] }
+    ensures change { (m : Meanings V T) (encoded : V → List ℕ) (s : Store V M) (list : List (EntrySeen V T)) (e : EntrySeen V T) → is_change e.kind ≡ true → images m encoded s (list ++ e ∷ []) ≡ images m encoded s list ++ main_at m encoded s (list ++ e ∷ []) ∷ [] }
+    ensures other { (m : Meanings V T) (encoded : V → List ℕ) (s : Store V M) (list : List (EntrySeen V T)) (e : EntrySeen V T) → is_change e.kind ≡ false → is_synced e.kind ≡ false → images m encoded s (list ++ e ∷ []) ≡ images m encoded s list }
     ensures parts { (list : List (EntrySeen V T)) → kept_front list ++ unkept list ≡ list }
 {}
 
 /// Each of them is main after a prefix that has every Synced of the history: what was acknowledged is in it.
 pub fn images_hold_what_is_synced<V, T, M>()
-    ensures { (m : Meanings V T) (s : Store V M) (list : List (EntrySeen V T)) → All (IsMainSinceSynced m s list) (images m s list) }
+    ensures { (m : Meanings V T) (encoded : V → List ℕ) (s : Store V M) (list : List (EntrySeen V T)) → All (IsMainSinceSynced m encoded s list) (images m encoded s list) }
 {}
