@@ -6,11 +6,11 @@ use Rattle.hist_journal.specs.Clearing.{is_replace, ends_in_replace, HasEntry}
 use Rattle.hist_journal.specs.Kinds.{is_call}
 
 -- what stands in a list stands in a longer one
-longer : {X : Type 0} (list before behind more : List X) (x : X) → list ≡ before ++ x ∷ behind → list ++ more ≡ before ++ x ∷ (behind ++ more)
+pub longer : {X : Type 0} (list before behind more : List X) (x : X) → list ≡ before ++ x ∷ behind → list ++ more ≡ before ++ x ∷ (behind ++ more)
 longer {X = X} list before behind more x e = ap (λ (xs : List X). xs ++ more) e ∙ append_assoc before (x ∷ behind) more
 
 -- what stands in a list with one more element is that element, or stands in the list
-last_or_before : {X : Type 0} (list before behind : List X) (last x : X) → list ++ last ∷ [] ≡ before ++ x ∷ behind
+pub last_or_before : {X : Type 0} (list before behind : List X) (last x : X) → list ++ last ∷ [] ≡ before ++ x ∷ behind
     → ((before ≡ list) × (x ≡ last)) ⊎ ((front : List X) × (list ≡ before ++ x ∷ front))
 last_or_before [] [] behind last x e = inl (refl, cc)
 last_or_before [] (y ∷ []) behind last x e = absurd (cc)

@@ -1,0 +1,10 @@
+pub mod Bools
+pub mod Computed
+pub mod EntryByEntry
+pub mod FreshLemmas
+pub mod ImageLemmas
+pub mod LegalLemmas
+pub mod OrderLemmas
+pub mod PendingLemmas
+pub mod RaiseLemmas
+pub mod UnlawfulExamples

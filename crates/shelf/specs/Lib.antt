@@ -1,0 +1,15 @@
+pub mod Base
+pub mod CallOrder
+pub mod Changes
+pub mod Entries
+pub mod ExampleStore
+pub mod FaultCounts
+pub mod Images
+pub mod LawfulExamples
+pub mod Legal
+pub mod Lifetimes
+pub mod Meanings
+pub mod OldSettings
+pub mod OpenRaise
+pub mod Readiness
+pub mod UnlawfulExamples

@@ -1,0 +1,24 @@
+//! The state that the nodes of a store share. So far it has the definitions that all turns are judged by: what a store
+//! is, and which histories of it are lawful. It stands on `hist_journal`, `prefs_model` and `store_traits`.
+//! Its one contract above: a lawful history stays lawful exactly where its next entry fits (`laws`).
+#![tactic(auto)]
+
+mod examples;
+mod laws;
+mod order_laws;
+mod store;
+#[cfg(test)]
+mod tests;
+
+pub use examples::{
+    ExampleEdit, histories_are_lawful, histories_are_unlawful, histories_come_to,
+    stores_have_their_base,
+};
+pub use laws::{
+    images_go_on, images_hold_what_is_synced, longer_is_legal, open_is_pending, prefix_is_legal,
+    quiet_is_fresh,
+};
+pub use order_laws::{
+    calls_end, changes_are_raised, counts_rise, numbers_never_fall, updates_end_once,
+};
+pub use store::{DeviceStart, Limits, PlannedDeath, SectionSeen, Store};

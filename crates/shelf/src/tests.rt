@@ -1,0 +1,34 @@
+//! The laws called at the types of the small store.
+use crate::{
+    ExampleEdit, calls_end, changes_are_raised, counts_rise, histories_are_lawful,
+    histories_are_unlawful, histories_come_to, images_go_on, images_hold_what_is_synced,
+    longer_is_legal, numbers_never_fall, open_is_pending, prefix_is_legal, quiet_is_fresh,
+    stores_have_their_base, updates_end_once,
+};
+
+#[test]
+fn the_laws_are_those_of_concrete_stores() {
+    prefix_is_legal::<u64, ExampleEdit, ()>();
+    longer_is_legal::<u64, ExampleEdit, ()>();
+    open_is_pending::<u64, ExampleEdit, ()>();
+    quiet_is_fresh::<u64, ExampleEdit, ()>();
+    images_go_on::<u64, ExampleEdit, ()>();
+    images_hold_what_is_synced::<u64, ExampleEdit, ()>();
+}
+
+#[test]
+fn the_laws_of_two_entries_are_those_of_concrete_stores() {
+    numbers_never_fall::<u64, ExampleEdit, ()>();
+    calls_end::<u64, ExampleEdit, ()>();
+    updates_end_once::<u64, ExampleEdit, ()>();
+    counts_rise::<u64, ExampleEdit, ()>();
+    changes_are_raised::<u64, ExampleEdit, ()>();
+}
+
+#[test]
+fn the_worked_histories_stand() {
+    histories_are_lawful();
+    histories_are_unlawful();
+    histories_come_to();
+    stores_have_their_base();
+}
