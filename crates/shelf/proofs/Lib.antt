@@ -6,5 +6,6 @@ pub mod ImageLemmas
 pub mod LegalLemmas
 pub mod OrderLemmas
 pub mod PendingLemmas
+pub mod Played
 pub mod RaiseLemmas
 pub mod UnlawfulExamples

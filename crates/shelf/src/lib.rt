@@ -6,6 +6,7 @@
 mod examples;
 mod laws;
 mod order_laws;
+mod step_examples;
 mod store;
 #[cfg(test)]
 mod tests;
@@ -17,4 +18,5 @@ pub use laws::{images_go_on, longer_is_legal, open_is_pending, prefix_is_legal, 
 pub use order_laws::{
     calls_end, changes_are_raised, counts_rise, numbers_never_fall, updates_end_once,
 };
+pub use step_examples::runs_follow_the_table;
 pub use store::{DeviceStart, Limits, PlannedDeath, SectionSeen, Store};
