@@ -189,9 +189,6 @@ place_so : (last : Option ℕ) (place : ℕ) → is_place last place ≡ true �
 place_so None place is = never is
 place_so (Some last) place is = let same : last ≡ place = eqb-true last place is in rw same refl
 
-same_world : (w : World ℕ Change) → w ≡ record w { history = w.history ++ [] }
-same_world w = rw append-nil refl
-
 other_numbers : (new old : ℕ) → (new == old) ≡ false → new ≢ old
 other_numbers new old is same = never (let equal : (new == old) ≡ true = eq-eqb new old same in cc)
 
@@ -214,14 +211,14 @@ module _ (s : Store ℕ (Unit {0})) (none : s.migrations ≡ []) where
         let makes : after c.edit (old_number s w c) ≡ Changed (new_value s w c) = changed_to (old_number s w c) (after c.edit (old_number s w c)) changed in
         inr (record {
           same = record { old = old_number s w c; held = refl; makes = rw equal at makes };
-          goes_on = record { folder = refl; faults = omega arith; world = same_world w; call = refl };
+          goes_on = record { folder = refl; faults = omega arith; world = refl; call = refl };
         })
     applied_so false is changed fits =
         let makes : after c.edit (old_number s w c) ≡ Changed (new_value s w c) = changed_to (old_number s w c) (after c.edit (old_number s w c)) changed in
         inl (record {
           change = record { old = old_number s w c; new = new_value s w c; held = refl; makes = makes; differs = other_numbers (new_value s w c) (old_number s w c) is };
           fits = fits;
-          goes_on = record { folder = refl; faults = omega arith; world = same_world w; call = refl };
+          goes_on = record { folder = refl; faults = omega arith; world = refl; call = refl };
         })
 
     row_so : (at : At ℕ Change) (gave : Progress (Result ℕ UpdateError)) → is_fine s w c at gave ≡ true → Row rules s at (turned s w c at gave) gave
@@ -243,9 +240,9 @@ module _ (s : Store ℕ (Unit {0})) (none : s.migrations ≡ []) where
         record {
           value = old_number s w c;
           read = reads_so s.limits.file w.folder.main parts.0 (grind (arith, nat_tests, limit));
-          then = record { folder = refl; faults = omega arith; world = same_world w; call = refl };
+          then = record { folder = refl; faults = omega arith; world = refl; call = refl };
         }
-    row_so (Migrating value) Moved is = (none, record { folder = refl; faults = omega arith; world = same_world w; call = refl })
+    row_so (Migrating value) Moved is = (none, record { world = refl; call = refl })
     row_so Finishing Moved is = record { world = refl; call = refl }
     row_so Reading Moved is =
         let parts = both_parts (is_number w.folder.main) (is_changed (after c.edit (old_number s w c)) && nat_le 1 s.limits.file) is in
@@ -259,19 +256,19 @@ module _ (s : Store ℕ (Unit {0})) (none : s.migrations ≡ []) where
         }
     row_so (Raising plan) Moved is = record { world = refl; call = refl }
     row_so (Creating plan) Moved is =
-        record { folder = record { main = refl; kept = refl; first = refl; alone = refl; scratch = refl }; faults = omega arith; world = same_world (record w { folder = record w.folder { scratch = Unsynced [] } }); call = refl }
+        record { folder = record { main = refl; kept = refl; first = refl; alone = refl; scratch = refl }; faults = omega arith; world = refl; call = refl }
     row_so (Appending plan) Moved is =
         record {
           folder = record { main = refl; kept = refl; first = refl; alone = refl; scratch = refl };
           faults = omega arith;
-          world = same_world (record w { folder = record w.folder { scratch = Unsynced (scratch_bytes w.folder.scratch ++ next_piece plan.text) } });
+          world = refl;
           call = refl;
         }
     row_so (SyncingScratch plan) Moved is =
         record {
           folder = record { main = refl; kept = refl; first = refl; alone = refl; scratch = refl };
           faults = omega arith;
-          world = same_world (record w { folder = record w.folder { scratch = Synced (scratch_bytes w.folder.scratch) } });
+          world = refl;
           call = refl;
         }
     row_so (Renaming plan) Moved is = record { folder = refl; faults = omega arith; world = refl; call = refl }

@@ -9,7 +9,7 @@ use Rattle.hist_journal.specs.Folds.{edition_of}
 use Rattle.shelf.specs.declared.store.Store.{Store}
 use Rattle.shelf.specs.Calls.{Plan, Raising, SyncingFolder}
 use Rattle.shelf.specs.Changes.{ChangesValue, KeepsValue}
-use Rattle.shelf.specs.Effects.{Does, Keeps, Stops}
+use Rattle.shelf.specs.Effects.{Does, Keeps, StopsReading}
 use Rattle.shelf.specs.Progress.{Progress, Moved, Ended}
 use Rattle.shelf.specs.World.{Rules, Turned}
 
@@ -41,6 +41,6 @@ module _ {V T M : Type 0} (r : Rules V T) (s : Store V M) (t : Turned V T) where
 
   abbrev pub Applies : V → Progress (Result ℕ UpdateError) → Type 0
   Applies value Moved = Writes value ⊎ WritesNothing value
-  Applies value (Ended (Err (error.Refused code edition))) = (r.meanings.after t.call.edit value ≡ Refused code) × (edition ≡ edition_of t.world.history) × Stops t
-  Applies value (Ended (Err (error.ValueTooLong len))) = IsTooLong value len × Stops t
+  Applies value (Ended (Err (error.Refused code edition))) = (r.meanings.after t.call.edit value ≡ Refused code) × (edition ≡ edition_of t.world.history) × StopsReading t
+  Applies value (Ended (Err (error.ValueTooLong len))) = IsTooLong value len × StopsReading t
   Applies value other = ⊥

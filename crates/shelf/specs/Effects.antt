@@ -1,5 +1,5 @@
 -- What a turn changes, in the words that the rows share.
-use Rattle.std.specs.Prelude.{◌≡◌, ℕ, ◌+◌, ◌-◌, ◌≤◌, List, [], ◌∷◌, ◌++◌, length, map, Option, Some, None, if◌then◌else◌}
+use Rattle.std.specs.Prelude.{◌≡◌, ℕ, ◌+◌, ◌-◌, ◌≤◌, List, [], ◌∷◌, ◌++◌, length, Option, Some, None, if◌then◌else◌}
 use Rattle.store_traits.specs.Faults.{Rose}
 use Rattle.store_traits.specs.declared.ids.CallId.{CallId}
 use Rattle.hist_journal.specs.declared.device.Device.TheVariants.{Folder}
@@ -21,8 +21,10 @@ abbrev pub Keeps : Contents → Contents → Type 0
 Keeps old new = new ≡ old
 
 module _ {V T : Type 0} where
+  -- the history with entries of these kinds at its end
   abbrev pub with_entries : CallId → List (KindSeen V T) → List (EntrySeen V T) → List (EntrySeen V T)
-  with_entries call kinds list = list ++ map (λ kind. record { who = call; kind = kind }) kinds
+  with_entries call [] list = list
+  with_entries call (kind ∷ kinds) list = with_entries call kinds (list ++ record { who = call; kind = kind } ∷ [])
 
   -- the place of the next entry
   abbrev pub next_place : World V T → ℕ
@@ -36,6 +38,11 @@ module _ {V T : Type 0} where
   pub record Stops (t : Turned V T) : Type 0 where
     pub world : t.world_after ≡ record t.world { owner = freed t.call.id t.world.owner }
     pub call : t.call_after ≡ ended t.call
+
+  -- nothing changes, and the call goes on
+  pub record GoesOn (t : Turned V T) (at : At V T) : Type 0 where
+    pub world : t.world_after ≡ t.world
+    pub call : t.call_after ≡ at_next 0 at t.call
 
   -- a device call went well and did this to the folder, entries of these kinds are added, and the call goes on
   pub record Does (t : Turned V T) (Makes : Contents → Contents → Type 0) (kinds : List (KindSeen V T)) (at : At V T) : Type 0 where
@@ -74,3 +81,7 @@ module _ {V T : Type 0} where
           owner = freed t.call.id t.world.owner;
         }
     pub call : t.call_after ≡ ended t.call
+
+  -- main was read, nothing but the lock changes, and the call ends
+  abbrev pub StopsReading : Turned V T → Type 0
+  StopsReading t = DoesLast t Keeps []

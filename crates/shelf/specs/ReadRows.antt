@@ -7,7 +7,7 @@ use Rattle.hist_journal.specs.declared.seen.BaseSeen.TheVariants.{Held, Corrupt,
 use Rattle.shelf.specs.declared.store.Store.{Store}
 use Rattle.shelf.specs.Base.{ReadsAs}
 use Rattle.shelf.specs.Calls.{Migrating, Finishing}
-use Rattle.shelf.specs.Effects.{Does, Fails, Keeps, Stops, next_place}
+use Rattle.shelf.specs.Effects.{Does, Fails, GoesOn, Keeps, Stops, StopsReading, next_place}
 use Rattle.shelf.specs.Progress.{Progress, Moved, Ended}
 use Rattle.shelf.specs.World.{Rules, Turned}
 
@@ -25,10 +25,10 @@ module _ {V T M : Type 0} (r : Rules V T) (s : Store V M) (t : Turned V T) where
   -- main is read; where it reads as a value, the rest of the row says what comes of it
   abbrev pub ReadRow : (V → Progress (Result ℕ UpdateError) → Type 0) → Progress (Result ℕ UpdateError) → Type 0
   ReadRow Then (Ended (Err (error.StorageFault at))) = (at ≡ next_place t.world) × Fails t Keeps
-  ReadRow Then (Ended (Err (error.FileTooLong len))) = MainReads (TooLong len) × Stops t
+  ReadRow Then (Ended (Err (error.FileTooLong len))) = MainReads (TooLong len) × StopsReading t
   -- nothing takes the place of an unreadable file
-  ReadRow Then (Ended (Err error.Corrupt)) = MainReads Corrupt × (s.handler ≡ None) × Stops t
-  ReadRow Then (Ended (Err error.NoMemory)) = Stops t
+  ReadRow Then (Ended (Err error.Corrupt)) = MainReads Corrupt × (s.handler ≡ None) × StopsReading t
+  ReadRow Then (Ended (Err error.NoMemory)) = StopsReading t
   ReadRow Then other = ReadsValue (λ value. Then value other)
 
   -- I2: the value goes to the migrations
@@ -38,6 +38,6 @@ module _ {V T M : Type 0} (r : Rules V T) (s : Store V M) (t : Turned V T) where
 
   -- I3, without migrations
   abbrev pub MigrateRow : V → Progress (Result ℕ UpdateError) → Type 0
-  MigrateRow value Moved = (s.migrations ≡ []) × Does t Keeps [] Finishing
+  MigrateRow value Moved = (s.migrations ≡ []) × GoesOn t Finishing
   MigrateRow value (Ended (Err error.NoMemory)) = Stops t
   MigrateRow value other = ⊥
