@@ -8,4 +8,5 @@ pub mod OrderLemmas
 pub mod PendingLemmas
 pub mod Played
 pub mod RaiseLemmas
+pub mod StepLemmas
 pub mod UnlawfulExamples

@@ -20,15 +20,15 @@ use Rattle.shelf.specs.declared.store.Store.{Store}
 use Rattle.shelf.specs.ApplyRow.{new_plan, Applies}
 use Rattle.shelf.specs.Calls.{At, Call, First, ReadingFirst, Migrating, Finishing, Reading, Raising, Creating, Appending, SyncingScratch, Renaming, SyncingFolder, ended}
 use Rattle.shelf.specs.Deaths.{last_death, used_up}
-use Rattle.shelf.specs.Effects.{at_next, freed, next_place, with_entries}
+use Rattle.shelf.specs.Effects.{at_next, freed, next_place, with_entries, is_ready_now}
 use Rattle.shelf.specs.Base.{ReadsAs}
 use Rattle.shelf.specs.ExampleStore.{after, reads}
 use Rattle.shelf.specs.ExampleTurns.{rules}
 use Rattle.shelf.specs.LastRows.{last_kinds}
-use Rattle.shelf.specs.LockRow.{most_entries, is_ready_now}
+use Rattle.shelf.specs.LockRow.{most_entries}
 use Rattle.shelf.specs.Progress.{Progress, Moved, Blocked, Ended}
 use Rattle.shelf.specs.Runs.{Did, Scene, Goes, Run}
-use Rattle.shelf.specs.Turn.{Row, TurnBy, begun, step_of, has_died_by, dies_now}
+use Rattle.shelf.specs.Turn.{Row, TurnBy, Turn, begin, step_of, has_died_by, dies_now}
 use Rattle.shelf.specs.World.{World, Turned, weight_at}
 use Rattle.shelf.specs.WriteRows.{filling, piece_written}
 use Rattle.shelf.proofs.Bools.{both_parts, never, not_true}
@@ -110,7 +110,7 @@ module _ (s : Store ℕ (Unit {0})) where
 
     -- the call then
     abbrev call_then : At ℕ Change → Progress (Result ℕ UpdateError) → Call ℕ Change
-    call_then First Moved = record c { at = if is_ready_now rules s before then Reading else ReadingFirst; room = most_entries (is_ready_now rules s before) }
+    call_then First Moved = record c { at = if is_ready_now before then Reading else ReadingFirst; room = most_entries (is_ready_now before) }
     call_then ReadingFirst Moved = at_next 0 (Migrating old_number) c
     call_then (Migrating value) Moved = at_next 0 Finishing c
     call_then Finishing Moved = at_next 1 First c
@@ -154,7 +154,7 @@ module _ (s : Store ℕ (Unit {0})) where
     world_by true dies gave = w
     world_by false true gave =
         record w {
-          deaths = used_up c.id (step_of rules s before) w.deaths;
+          deaths = used_up c.id (step_of before) w.deaths;
           history = with_entries c.id (Death c.id.node ∷ []) w.history;
           owner = freed_node c.id.node w.owner;
         }
@@ -287,13 +287,13 @@ module _ (s : Store ℕ (Unit {0})) (none : s.migrations ≡ []) where
 
   module _ (did : Did) (scene : Scene ℕ Change) where
     abbrev begun_of : Call ℕ Change → Call ℕ Change
-    begun_of call = begun rules s scene.world call
+    begun_of call = (begin (before s scene.world call)).call
 
     abbrev died_of : Call ℕ Change → Bool
-    died_of call = has_died_by rules s (before s scene.world (begun_of call))
+    died_of call = has_died_by (before s scene.world (begun_of call))
 
     abbrev dies_of : Call ℕ Change → Bool
-    dies_of call = dies_now rules s (before s scene.world (begun_of call))
+    dies_of call = dies_now (before s scene.world (begun_of call))
 
     abbrev scene_by : Option (Call ℕ Change) → Scene ℕ Change
     scene_by None = scene

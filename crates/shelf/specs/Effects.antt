@@ -1,5 +1,5 @@
 -- What a turn changes, in the words that the rows share.
-use Rattle.std.specs.Prelude.{◌≡◌, ℕ, ◌+◌, ◌-◌, ◌≤◌, List, [], ◌∷◌, ◌++◌, length, Option, Some, None, if◌then◌else◌}
+use Rattle.std.specs.Prelude.{◌≡◌, Bool, ℕ, ◌+◌, ◌-◌, ◌≤◌, List, [], ◌∷◌, ◌++◌, length, Option, Some, None, if◌then◌else◌}
 use Rattle.store_traits.specs.Faults.{Rose}
 use Rattle.store_traits.specs.declared.ids.CallId.{CallId}
 use Rattle.hist_journal.specs.declared.device.Device.TheVariants.{Folder}
@@ -7,6 +7,7 @@ use Rattle.hist_journal.specs.declared.seen.EntrySeen.{EntrySeen}
 use Rattle.hist_journal.specs.declared.seen.KindSeen.{KindSeen}
 use Rattle.hist_journal.specs.declared.seen.KindSeen.TheVariants.{Fault}
 use Rattle.hist_journal.specs.Kinds.{is_call}
+use Rattle.hist_journal.specs.Nodes.{is_ready}
 use Rattle.folder_disk.specs.Contents.{Contents}
 use Rattle.shelf.specs.Calls.{At, Call, ended}
 use Rattle.shelf.specs.World.{World, Turned}
@@ -29,6 +30,10 @@ module _ {V T : Type 0} where
   -- the place of the next entry
   abbrev pub next_place : World V T → ℕ
   next_place w = length w.history + 1
+
+  -- the node of the call is initialised
+  abbrev pub is_ready_now : Turned V T → Bool
+  is_ready_now t = is_ready t.call.id.node t.world.history
 
   -- the call is at this step next, and has used room for so many entries
   abbrev pub at_next : ℕ → At V T → Call V T → Call V T

@@ -3,10 +3,9 @@ use Rattle.std.specs.Prelude.{◌≡◌, ◌⊎◌, ◌≤◌, ◌<◌, ℕ, Boo
 use Rattle.store_traits.specs.declared.update_error.UpdateError.{UpdateError}
 use Rattle.store_traits.specs.declared.update_error.UpdateError.TheVariants.{HistoryFull, NoMemory}
 use Rattle.file_lock.specs.Owner.{IsAnother}
-use Rattle.hist_journal.specs.Nodes.{is_ready}
 use Rattle.shelf.specs.declared.store.Store.{Store}
 use Rattle.shelf.specs.Calls.{ReadingFirst, Reading}
-use Rattle.shelf.specs.Effects.{Stops}
+use Rattle.shelf.specs.Effects.{Stops, is_ready_now}
 use Rattle.shelf.specs.Progress.{Progress, Moved, Blocked, Ended}
 use Rattle.shelf.specs.World.{Rules, Turned, weight_at}
 
@@ -15,10 +14,6 @@ abbrev pub most_entries : Bool → ℕ
 most_entries ready = if ready then 3 else 1
 
 module _ {V T M : Type 0} (r : Rules V T) (s : Store V M) (t : Turned V T) where
-  -- the node is initialised
-  abbrev pub is_ready_now : Bool
-  is_ready_now = is_ready t.call.id.node t.world.history
-
   abbrev pub IsFree : Type 0
   IsFree = IsAnother t.world.owner t.call.id → ⊥
 
@@ -43,7 +38,7 @@ module _ {V T M : Type 0} (r : Rules V T) (s : Store V M) (t : Turned V T) where
     pub free : IsFree
     pub bounds : IsOpen
     pub world : t.world_after ≡ record t.world { owner = Some t.call.id }
-    pub call : t.call_after ≡ record t.call { at = if is_ready_now then Reading else ReadingFirst; room = most_entries is_ready_now }
+    pub call : t.call_after ≡ record t.call { at = if is_ready_now t then Reading else ReadingFirst; room = most_entries (is_ready_now t) }
 
   abbrev pub LockRow : Progress (Result ℕ UpdateError) → Type 0
   LockRow Blocked = Waits

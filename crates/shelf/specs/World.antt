@@ -1,5 +1,6 @@
 -- What a turn finds and leaves, and what its row works by.
 use Rattle.std.specs.Prelude.{◌≡◌, ℕ, List, [], ◌∷◌, length, min, ◌-◌, ◌^◌, Option, None, IsTrue}
+use Rattle.store_traits.specs.declared.applied.Applied.{Applied}
 use Rattle.store_traits.specs.declared.ids.CallId.{CallId}
 use Rattle.hist_journal.specs.declared.seen.EntrySeen.{EntrySeen}
 use Rattle.hist_journal.specs.Folds.{weight_of}
@@ -47,3 +48,7 @@ pub record Begins {V T M : Type 0} (s : Store V M) (w : World V T) : Type 0 wher
 -- what a history weighs; it stays at the end of its range
 abbrev pub weight_at : {V T : Type 0} → Rules V T → List (EntrySeen V T) → ℕ
 weight_at r list = min (weight_of r.weight (λ v. length (r.meanings.encoded v)) list) (2 ^ 64 - 1)
+
+-- the rules of what transforms make and weigh, and of a codec
+abbrev pub rules_of : {V T : Type 0} → (T → V → Applied V) → (T → ℕ) → (V → List ℕ) → (List ℕ → V → Type 0) → V → Rules V T
+rules_of after weight encoded reads absent = record { meanings = record { after = after; encoded = encoded }; reads = reads; absent = absent; weight = weight }

@@ -7,6 +7,7 @@ mod examples;
 mod laws;
 mod order_laws;
 mod step_examples;
+mod step_laws;
 mod store;
 #[cfg(test)]
 mod tests;
@@ -19,4 +20,5 @@ pub use order_laws::{
     calls_end, changes_are_raised, counts_rise, numbers_never_fall, updates_end_once,
 };
 pub use step_examples::runs_follow_the_table;
+pub use step_laws::{ended_calls_own_nothing, turns_wait_exactly, want_of_memory_changes_nothing};
 pub use store::{DeviceStart, Limits, PlannedDeath, SectionSeen, Store};
