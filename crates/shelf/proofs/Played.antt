@@ -1,5 +1,5 @@
 -- A run of the small store that is written down is shown to follow the table by computing it.
-use Rattle.std.proofs.Common.{◌≡◌, ◌≢◌, inl, inr, ◌≤◌, ℕ, ◌+◌, ◌==◌, nat_lt, nat_le, Bool, true, false, ◌&&◌, not, List, [], ◌∷◌, ◌++◌, Option, Some, None, refl, arith, append-nil, length, slice_get, slice_set, if◌then◌else◌, Result, Ok, Err}
+use Rattle.std.proofs.Common.{◌≡◌, ◌≢◌, inl, inr, ◌≤◌, ℕ, ◌+◌, ◌==◌, nat_lt, nat_le, Bool, true, false, ◌&&◌, not, List, [], ◌∷◌, ◌++◌, Option, Some, None, refl, arith, length, slice_get, slice_set, if◌then◌else◌, Result, Ok, Err}
 use Rattle.std.proofs.lemmas.Bool.Decides.{nat_tests}
 use Rattle.std.proofs.lemmas.Bool.{eqb-true, eq-eqb}
 use Rattle.store_traits.specs.declared.applied.Applied.{Applied}
@@ -28,18 +28,16 @@ use Rattle.shelf.specs.LastRows.{last_kinds}
 use Rattle.shelf.specs.LockRow.{most_entries}
 use Rattle.shelf.specs.Progress.{Progress, Moved, Blocked, Ended}
 use Rattle.shelf.specs.Runs.{Did, Scene, Goes, Run}
-use Rattle.shelf.specs.Turn.{Row, TurnBy, Turn, begin, step_of, has_died_by, dies_now}
+use Rattle.shelf.specs.Turn.{Row, TurnBy, begin, step_of, has_died_by, dies_now}
 use Rattle.shelf.specs.World.{World, Turned, weight_at}
 use Rattle.shelf.specs.WriteRows.{filling, piece_written}
 use Rattle.shelf.proofs.Bools.{both_parts, never, not_true}
+use Rattle.shelf.proofs.StepLemmas.{itself}
 
 -- another call owns the lock
 abbrev is_other : Option CallId → CallId → Bool
 is_other None call = false
 is_other (Some owner) call = not (is_call owner call)
-
-itself : (c : CallId) → is_call c c ≡ true
-itself c = let node = eq-eqb c.node.0 c.node.0 refl in let client = eq-eqb c.client.0 c.client.0 refl in let number = eq-eqb c.number c.number refl in rw (node, client, number) refl
 
 other_so : (owner : Option CallId) (call : CallId) → is_other owner call ≡ true → IsAnother owner call
 other_so None call is = never is

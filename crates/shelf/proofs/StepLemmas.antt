@@ -1,6 +1,7 @@
 -- What all turns have in common.
-use Rattle.std.proofs.Common.{◌≡◌, ℕ, ◌==◌, Bool, true, false, List, Option, Some, None, refl, sym, ap, ◌∙◌, if◌then◌else◌, Result, Ok, Err}
+use Rattle.std.proofs.Common.{◌≡◌, ℕ, ◌==◌, Bool, true, false, List, Option, Some, None, refl, arith, sym, ap, ◌∙◌, if◌then◌else◌, Result, Ok, Err}
 use Rattle.std.proofs.lemmas.Bool.{eq-eqb}
+use Rattle.std.proofs.lemmas.Bool.Decides.{nat_tests}
 use Rattle.store_traits.specs.declared.ids.CallId.{CallId}
 use Rattle.store_traits.specs.declared.update_error.UpdateError.{UpdateError}
 use Rattle.store_traits.specs.declared.update_error.UpdateError.TheVariants.{HistoryFull, NoMemory}
@@ -20,12 +21,8 @@ use Rattle.shelf.specs.Turn.{EndsDying, Row, TurnBy, Turn, begin, has_died_by, d
 use Rattle.shelf.specs.World.{Rules, World, Turned}
 use Rattle.shelf.proofs.Bools.{never}
 
-itself : (c : CallId) → is_call c c ≡ true
-itself c =
-    let node = eq-eqb c.node.0 c.node.0 refl in
-    let client = eq-eqb c.client.0 c.client.0 refl in
-    let number = eq-eqb c.number c.number refl in
-    rw (node, client, number) refl
+pub itself : (call : CallId) → is_call call call ≡ true
+itself call = grind (arith, nat_tests)
 
 -- a call that is freed owns nothing
 freed_by : (own : Bool) (call owner : CallId) → is_call call owner ≡ own → (if own then None else Some owner) ≡ Some call → ⊥

@@ -22,6 +22,7 @@ pub mod Progress
 pub mod ReadRows
 pub mod Readiness
 pub mod Runs
+pub mod SingleTurns
 pub mod Turn
 pub mod UnlawfulExamples
 pub mod World

@@ -8,6 +8,8 @@ mod laws;
 mod order_laws;
 mod step_examples;
 mod step_laws;
+#[cfg(test)]
+mod step_tests;
 mod store;
 #[cfg(test)]
 mod tests;
@@ -19,6 +21,8 @@ pub use laws::{images_go_on, longer_is_legal, open_is_pending, prefix_is_legal, 
 pub use order_laws::{
     calls_end, changes_are_raised, counts_rise, numbers_never_fall, updates_end_once,
 };
-pub use step_examples::runs_follow_the_table;
+pub use step_examples::{
+    runs_follow_the_table, runs_start_where_a_session_begins, wrong_turns_are_refused,
+};
 pub use step_laws::{ended_calls_own_nothing, turns_wait_exactly, want_of_memory_changes_nothing};
 pub use store::{DeviceStart, Limits, PlannedDeath, SectionSeen, Store};
