@@ -18,7 +18,7 @@ use Rattle.scratch_rename.specs.Filling.{next_piece}
 use Rattle.shelf.specs.declared.examples.Change.{Change}
 use Rattle.shelf.specs.declared.store.Store.{Store}
 use Rattle.shelf.specs.ApplyRow.{new_plan, Applies}
-use Rattle.shelf.specs.Calls.{At, Call, First, ReadingFirst, Migrating, Finishing, Reading, Raising, Creating, Appending, SyncingScratch, Renaming, SyncingFolder, ended}
+use Rattle.shelf.specs.Calls.{is_gone, At, Call, First, ReadingFirst, Migrating, Finishing, Reading, Raising, Creating, Appending, SyncingScratch, Renaming, SyncingFolder, ended}
 use Rattle.shelf.specs.Deaths.{last_death, used_up}
 use Rattle.shelf.specs.Effects.{at_next, freed, next_place, with_entries, is_ready_now}
 use Rattle.shelf.specs.Base.{ReadsAs}
@@ -163,12 +163,13 @@ module _ (s : Store ℕ (Unit {0})) where
     call_by false true gave = ended c
     call_by false false gave = call_then c.at gave
 
-    abbrev fine_by : Bool → Bool → Progress (Result ℕ UpdateError) → Bool
-    fine_by true dies (Ended (Err (Died place))) = is_place (last_death c.id.node w.history) place
-    fine_by true dies gave = false
-    fine_by false true (Ended (Err (Died place))) = place == next_place w
-    fine_by false true gave = false
-    fine_by false false gave = is_fine c.at gave
+    abbrev fine_by : Bool → Bool → Bool → Progress (Result ℕ UpdateError) → Bool
+    fine_by true died dies gave = false
+    fine_by false true dies (Ended (Err (Died place))) = is_place (last_death c.id.node w.history) place
+    fine_by false true dies gave = false
+    fine_by false false true (Ended (Err (Died place))) = place == next_place w
+    fine_by false false true gave = false
+    fine_by false false false gave = is_fine c.at gave
 
     abbrev turned_by : Bool → Bool → Progress (Result ℕ UpdateError) → Turned ℕ Change
     turned_by died dies gave = record { world = w; call = c; world_after = world_by died dies gave; call_after = call_by died dies gave }
@@ -276,12 +277,13 @@ module _ (s : Store ℕ (Unit {0})) (none : s.migrations ≡ []) where
         (eqb-true edition (edition_of w.history) is, record { folder = refl; faults = omega arith; world = refl; call = refl })
     row_so at gave is = never is
 
-    by_so : (died dies : Bool) (gave : Progress (Result ℕ UpdateError)) → fine_by s w c died dies gave ≡ true → TurnBy rules s died dies (turned_by s w c died dies gave) gave
-    by_so true dies (Ended (Err (Died place))) is = (place_so (last_death c.id.node w.history) place is, refl, refl)
-    by_so true dies gave is = never is
-    by_so false true (Ended (Err (Died place))) is = (eqb-true place (next_place w) is, record { world = refl; call = refl })
-    by_so false true gave is = never is
-    by_so false false gave is = row_so c.at gave is
+    by_so : (gone died dies : Bool) (gave : Progress (Result ℕ UpdateError)) → fine_by s w c gone died dies gave ≡ true → TurnBy rules s gone died dies (turned_by s w c died dies gave) gave
+    by_so true died dies gave is = never is
+    by_so false true dies (Ended (Err (Died place))) is = (place_so (last_death c.id.node w.history) place is, refl, refl)
+    by_so false true dies gave is = never is
+    by_so false false true (Ended (Err (Died place))) is = (eqb-true place (next_place w) is, record { world = refl; call = refl })
+    by_so false false true gave is = never is
+    by_so false false false gave is = row_so c.at gave is
 
   module _ (did : Did) (scene : Scene ℕ Change) where
     abbrev begun_of : Call ℕ Change → Call ℕ Change
@@ -303,7 +305,7 @@ module _ (s : Store ℕ (Unit {0})) (none : s.migrations ≡ []) where
 
     abbrev is_fine_by : Option (Call ℕ Change) → Bool
     is_fine_by None = false
-    is_fine_by (Some call) = fine_by s scene.world (begun_of call) (died_of call) (dies_of call) did.gave
+    is_fine_by (Some call) = fine_by s scene.world (begun_of call) (is_gone call.at) (died_of call) (dies_of call) did.gave
 
     abbrev scene_then : Scene ℕ Change
     scene_then = scene_by (slice_get scene.calls did.place)
@@ -319,7 +321,7 @@ module _ (s : Store ℕ (Unit {0})) (none : s.migrations ≡ []) where
           call_after = call_by s scene.world (begun_of call) (died_of call) (dies_of call) did.gave;
           was = was;
           now = refl;
-          turn = by_so scene.world (begun_of call) (died_of call) (dies_of call) did.gave is;
+          turn = by_so scene.world (begun_of call) (is_gone call.at) (died_of call) (dies_of call) did.gave is;
         }
 
   -- where so many turns lead, and whether each follows the table

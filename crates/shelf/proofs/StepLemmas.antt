@@ -12,7 +12,7 @@ use Rattle.hist_journal.specs.declared.seen.KindSeen.{KindSeen}
 use Rattle.hist_journal.specs.Kinds.{is_call}
 use Rattle.shelf.specs.declared.store.Store.{Store}
 use Rattle.shelf.specs.ApplyRow.{Applies}
-use Rattle.shelf.specs.Calls.{At, First, ReadingFirst, Migrating, Finishing, Reading, Raising, Creating, Appending, SyncingScratch, Renaming, SyncingFolder, Gone, ended}
+use Rattle.shelf.specs.Calls.{At, First, ReadingFirst, Migrating, Finishing, Reading, Raising, Creating, Appending, SyncingScratch, Renaming, SyncingFolder, Gone, ended, is_gone}
 use Rattle.shelf.specs.Effects.{DoesLast, Fails, Stops, freed}
 use Rattle.shelf.specs.LockRow.{LockRow, Waits}
 use Rattle.shelf.specs.Progress.{Progress, Moved, Blocked, Ended}
@@ -60,16 +60,17 @@ module _ {V T M : Type 0} (r : Rules V T) (s : Store V M) where
   row_waits (SyncingFolder changed) t it = absurd it
   row_waits Gone t it = absurd it
 
-  waits_by : (died dies : Bool) (t : Turned V T) → TurnBy r s died dies t Blocked → (died ≡ false) × (dies ≡ false) × (t.call.at ≡ First) × Waits r s t
-  waits_by true dies t it = absurd it
-  waits_by false true t it = absurd it
-  waits_by false false t it = let facts = row_waits t.call.at t it in (refl, refl, facts.0, facts.1)
+  waits_by : (gone died dies : Bool) (t : Turned V T) → TurnBy r s gone died dies t Blocked → (died ≡ false) × (dies ≡ false) × (t.call.at ≡ First) × Waits r s t
+  waits_by true died dies t it = absurd it
+  waits_by false true dies t it = absurd it
+  waits_by false false true t it = absurd it
+  waits_by false false false t it = let facts = row_waits t.call.at t it in (refl, refl, facts.0, facts.1)
 
   -- what waits is not ended by a death and is at its first turn, another owns the lock, and the world is as it was
   pub turn_waits : (t : Turned V T) → Turn r s t Blocked
       → (has_died_by (begin t) ≡ false) × (dies_now (begin t) ≡ false) × (t.call.at ≡ First) × IsAnother t.world.owner t.call.id × (t.world_after ≡ t.world)
   turn_waits t it =
-      let facts = waits_by (has_died_by (begin t)) (dies_now (begin t)) (begin t) it in
+      let facts = waits_by (is_gone t.call.at) (has_died_by (begin t)) (dies_now (begin t)) (begin t) it in
       (facts.0, facts.1, facts.2, facts.3.owned, facts.3.world)
 
   lock_waits : (t : Turned V T) (gave : Progress (Result ℕ UpdateError)) → LockRow r s t gave → IsAnother t.world.owner t.call.id → gave ≡ Blocked
@@ -86,7 +87,8 @@ module _ {V T M : Type 0} (r : Rules V T) (s : Store V M) where
   pub turn_has_to_wait : (t : Turned V T) (gave : Progress (Result ℕ UpdateError)) → Turn r s t gave → has_died_by (begin t) ≡ false → dies_now (begin t) ≡ false
       → t.call.at ≡ First → IsAnother t.world.owner t.call.id → gave ≡ Blocked
   turn_has_to_wait t gave it lives goes_on first another =
-      let row : Row r s t.call.at (begin t) gave = rw (lives, goes_on) at it in
+      let begins : is_gone t.call.at ≡ false = rw first refl in
+      let row : Row r s t.call.at (begin t) gave = rw (begins, lives, goes_on) at it in
       first_waits t.call.at (begin t) gave first row another
 
   -- the folder and the history are as they were
@@ -108,14 +110,15 @@ module _ {V T M : Type 0} (r : Rules V T) (s : Store V M) where
   row_untouched (SyncingFolder changed) t it = absurd it
   row_untouched Gone t it = absurd it
 
-  untouched_by : (died dies : Bool) (t : Turned V T) → TurnBy r s died dies t (Ended (Err NoMemory)) → Untouched t
-  untouched_by true dies t it = absurd it
-  untouched_by false true t it = absurd it
-  untouched_by false false t it = row_untouched t.call.at t it
+  untouched_by : (gone died dies : Bool) (t : Turned V T) → TurnBy r s gone died dies t (Ended (Err NoMemory)) → Untouched t
+  untouched_by true died dies t it = absurd it
+  untouched_by false true dies t it = absurd it
+  untouched_by false false true t it = absurd it
+  untouched_by false false false t it = row_untouched t.call.at t it
 
   pub no_memory_untouched : (t : Turned V T) → Turn r s t (Ended (Err NoMemory)) → (t.world_after.folder ≡ t.world.folder) × (t.world_after.history ≡ t.world.history)
   no_memory_untouched t it =
-      let facts = untouched_by (has_died_by (begin t)) (dies_now (begin t)) (begin t) it in
+      let facts = untouched_by (is_gone t.call.at) (has_died_by (begin t)) (dies_now (begin t)) (begin t) it in
       (facts.folder, facts.history)
 
   -- the call has ended, and owns nothing
@@ -168,14 +171,15 @@ module _ {V T M : Type 0} (r : Rules V T) (s : Store V M) where
       record { call = it.1.call; owner = λ own. node_freed t.call.id t.world.owner (sym owner ∙ own) }
   dying_leaves t other it = absurd it
 
-  leaves_by : (dies : Bool) (t : Turned V T) (answer : Result ℕ UpdateError) → TurnBy r s false dies t (Ended answer) → Leaves t
-  leaves_by true t answer it = dying_leaves t answer it
-  leaves_by false t answer it = row_leaves t.call.at t answer it
+  leaves_by : (gone dies : Bool) (t : Turned V T) (answer : Result ℕ UpdateError) → TurnBy r s gone false dies t (Ended answer) → Leaves t
+  leaves_by true dies t answer it = absurd it
+  leaves_by false true t answer it = dying_leaves t answer it
+  leaves_by false false t answer it = row_leaves t.call.at t answer it
 
   -- a call that ends owns nothing and keeps no room, unless its node was dead before
   pub ended_leaves : (t : Turned V T) (answer : Result ℕ UpdateError) → Turn r s t (Ended answer) → has_died_by (begin t) ≡ false
       → (t.call_after ≡ ended (begin t).call) × (t.world_after.owner ≡ Some t.call.id → ⊥)
   ended_leaves t answer it lives =
-      let turn : TurnBy r s false (dies_now (begin t)) (begin t) (Ended answer) = rw lives at it in
-      let facts = leaves_by (dies_now (begin t)) (begin t) answer turn in
+      let turn : TurnBy r s (is_gone t.call.at) false (dies_now (begin t)) (begin t) (Ended answer) = rw lives at it in
+      let facts = leaves_by (is_gone t.call.at) (dies_now (begin t)) (begin t) answer turn in
       (facts.call, facts.owner)

@@ -1,5 +1,5 @@
 -- A call in progress: who makes it, what it asks for, and where it is.
-use Rattle.std.specs.Prelude.{ℕ, Bool, Option, if◌then◌else◌}
+use Rattle.std.specs.Prelude.{ℕ, Bool, true, false, Option, if◌then◌else◌}
 use Rattle.store_traits.specs.declared.ids.CallId.{CallId}
 use Rattle.store_traits.specs.declared.step.Step.{Step}
 use Rattle.store_traits.specs.declared.step.Step.TheVariants as step
@@ -31,6 +31,7 @@ pub data At (V T : Type 0) : Type 0 where
   Renaming : (plan : Plan V T) → At V T
   -- U8, with the place of the value change of this holding, or none
   SyncingFolder : (changed : Option ℕ) → At V T
+  -- it has ended
   Gone : At V T
 
 pub record Call (V T : Type 0) : Type 0 where
@@ -43,6 +44,11 @@ pub record Call (V T : Type 0) : Type 0 where
   pub room : ℕ
 
 module _ {V T : Type 0} where
+  -- the call has ended
+  abbrev pub is_gone : At V T → Bool
+  is_gone Gone = true
+  is_gone other = false
+
   -- the step of a call, where `ready` says whether its node is initialised; a call that ended has none, and I1 stands for it
   abbrev pub step_at : Bool → At V T → Step
   step_at ready First = if ready then step.U1 else step.I1
@@ -58,6 +64,6 @@ module _ {V T : Type 0} where
   step_at ready (SyncingFolder changed) = step.U8
   step_at ready Gone = step.I1
 
-  -- the call has ended, and keeps no room
+  -- the call once it has ended: it keeps no room
   abbrev pub ended : Call V T → Call V T
   ended call = record call { at = Gone; room = 0 }

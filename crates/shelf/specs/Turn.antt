@@ -8,7 +8,7 @@ use Rattle.file_lock.specs.Owner.{freed_node}
 use Rattle.hist_journal.specs.declared.seen.KindSeen.TheVariants.{Death}
 use Rattle.shelf.specs.declared.store.Store.{Store}
 use Rattle.shelf.specs.ApplyRow.{Applies}
-use Rattle.shelf.specs.Calls.{At, First, ReadingFirst, Migrating, Finishing, Reading, Raising, Creating, Appending, SyncingScratch, Renaming, SyncingFolder, Gone, step_at, ended}
+use Rattle.shelf.specs.Calls.{At, First, ReadingFirst, Migrating, Finishing, Reading, Raising, Creating, Appending, SyncingScratch, Renaming, SyncingFolder, Gone, is_gone, step_at, ended}
 use Rattle.shelf.specs.Deaths.{has_died, last_death, strikes, used_up}
 use Rattle.shelf.specs.Effects.{is_ready_now, next_place, with_entries}
 use Rattle.shelf.specs.LastRows.{FinishRow, SyncFolderRow}
@@ -67,11 +67,12 @@ module _ {V T M : Type 0} (r : Rules V T) (s : Store V M) where
   Row (SyncingFolder changed) t = SyncFolderRow t changed
   Row Gone t = λ answer. ⊥
 
-  -- a death of the node comes first, then one that is planned, then the row
-  abbrev pub TurnBy : (died dies : Bool) → Turned V T → Progress (Result ℕ UpdateError) → Type 0
-  TurnBy true dies t = EndsDead t
-  TurnBy false true t = EndsDying t
-  TurnBy false false t = Row t.call.at t
+  -- a call that ended has no turn; a death of the node comes first, then one that is planned, then the row
+  abbrev pub TurnBy : (gone died dies : Bool) → Turned V T → Progress (Result ℕ UpdateError) → Type 0
+  TurnBy true died dies t = λ answer. ⊥
+  TurnBy false true dies t = EndsDead t
+  TurnBy false false true t = EndsDying t
+  TurnBy false false false t = Row t.call.at t
 
   abbrev pub Turn : Turned V T → Progress (Result ℕ UpdateError) → Type 0
-  Turn t = TurnBy (has_died_by (begin t)) (dies_now (begin t)) (begin t)
+  Turn t = TurnBy (is_gone t.call.at) (has_died_by (begin t)) (dies_now (begin t)) (begin t)
