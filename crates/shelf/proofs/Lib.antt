@@ -2,6 +2,7 @@ pub mod Bools
 pub mod Computed
 pub mod EntryByEntry
 pub mod FreshLemmas
+pub mod GrowthLemmas
 pub mod ImageLemmas
 pub mod LegalLemmas
 pub mod OrderLemmas

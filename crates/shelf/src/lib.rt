@@ -24,5 +24,7 @@ pub use order_laws::{
 pub use step_examples::{
     runs_follow_the_table, runs_start_where_a_session_begins, wrong_turns_are_refused,
 };
-pub use step_laws::{ended_calls_own_nothing, turns_wait_exactly, want_of_memory_changes_nothing};
+pub use step_laws::{
+    ended_calls_own_nothing, turns_only_add, turns_wait_exactly, want_of_memory_changes_nothing,
+};
 pub use store::{DeviceStart, Limits, PlannedDeath, SectionSeen, Store};

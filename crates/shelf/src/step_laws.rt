@@ -1,9 +1,10 @@
 //! What holds of every turn, whatever codec and transforms the store has: each law is the contract of a function that does
 //! nothing.
-ghost use Rattle.std.specs.Prelude.{◌≡◌, ℕ, false, Some, Result, Err};
+ghost use Rattle.std.specs.Prelude.{◌≡◌, ◌++◌, ℕ, List, false, Some, Result, Err};
 ghost use Rattle.store_traits.specs.declared.update_error.UpdateError.{UpdateError};
 ghost use Rattle.store_traits.specs.declared.update_error.UpdateError.TheVariants.{NoMemory};
 ghost use Rattle.file_lock.specs.Owner.{IsAnother};
+ghost use Rattle.hist_journal.specs.declared.seen.EntrySeen.{EntrySeen};
 ghost use Rattle.shelf.specs.declared.store.Store.{Store};
 ghost use Rattle.shelf.specs.Calls.{First, ended};
 ghost use Rattle.shelf.specs.Progress.{Progress, Blocked, Ended};
@@ -34,4 +35,11 @@ pub fn ended_calls_own_nothing<C: Codec, T: Transform<Value = C::Value>, M>()
     ensures { (c : C) (s : Store C.Value M) (t : Turned C.Value T) (answer : Result ℕ UpdateError)
         → Turn (rules_of T.after T.weight_of (C.encoded c) (C.reads c) (C.default_of c)) s t (Ended answer) → has_died_by (begin t) ≡ false
         → (t.call_after ≡ ended (begin t).call) × (t.world_after.owner ≡ Some t.call.id → ⊥) }
+{}
+
+/// A turn only adds entries at the end of the history.
+pub fn turns_only_add<C: Codec, T: Transform<Value = C::Value>, M>()
+    ensures { (c : C) (s : Store C.Value M) (t : Turned C.Value T) (gave : Progress (Result ℕ UpdateError))
+        → Turn (rules_of T.after T.weight_of (C.encoded c) (C.reads c) (C.default_of c)) s t gave
+        → (more : List (EntrySeen C.Value T)) × (t.world_after.history ≡ t.world.history ++ more) }
 {}
