@@ -2,9 +2,12 @@ pub mod Bools
 pub mod Computed
 pub mod EntryByEntry
 pub mod FreshLemmas
+pub mod GrowthLemmas
 pub mod ImageLemmas
 pub mod LegalLemmas
 pub mod OrderLemmas
 pub mod PendingLemmas
+pub mod Played
 pub mod RaiseLemmas
+pub mod StepLemmas
 pub mod UnlawfulExamples

@@ -6,6 +6,10 @@
 mod examples;
 mod laws;
 mod order_laws;
+mod step_examples;
+mod step_laws;
+#[cfg(test)]
+mod step_tests;
 mod store;
 #[cfg(test)]
 mod tests;
@@ -20,5 +24,11 @@ pub use laws::{
 };
 pub use order_laws::{
     calls_end, changes_are_raised, counts_rise, numbers_never_fall, updates_end_once,
+};
+pub use step_examples::{
+    runs_follow_the_table, runs_start_where_a_session_begins, wrong_turns_are_refused,
+};
+pub use step_laws::{
+    ended_calls_own_nothing, turns_only_add, turns_wait_exactly, want_of_memory_changes_nothing,
 };
 pub use store::{DeviceStart, Limits, PlannedDeath, SectionSeen, Store};

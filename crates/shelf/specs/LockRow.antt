@@ -1,0 +1,48 @@
+-- I1 and U1: the lock is taken.
+use Rattle.std.specs.Prelude.{◌≡◌, ◌⊎◌, ◌≤◌, ◌<◌, ℕ, Bool, length, Some, if◌then◌else◌, Result, Err}
+use Rattle.store_traits.specs.declared.update_error.UpdateError.{UpdateError}
+use Rattle.store_traits.specs.declared.update_error.UpdateError.TheVariants.{HistoryFull, NoMemory}
+use Rattle.file_lock.specs.Owner.{IsAnother}
+use Rattle.shelf.specs.declared.store.Store.{Store}
+use Rattle.shelf.specs.Calls.{ReadingFirst, Reading}
+use Rattle.shelf.specs.Effects.{Stops, is_ready_now}
+use Rattle.shelf.specs.Progress.{Progress, Moved, Blocked, Ended}
+use Rattle.shelf.specs.World.{Rules, Turned, weight_at}
+
+-- the most entries that a holding can add: an Inited or a Fault; or a Raise, an Edit and a Synced or a Fault
+abbrev pub most_entries : Bool → ℕ
+most_entries ready = if ready then 3 else 1
+
+module _ {V T M : Type 0} (r : Rules V T) (s : Store V M) (t : Turned V T) where
+  abbrev pub IsFree : Type 0
+  IsFree = IsAnother t.world.owner t.call.id → ⊥
+
+  -- the entries or the weight have reached their bound
+  pub record IsFull (entries weight : ℕ) : Type 0 where
+    pub entries_now : entries ≡ length t.world.history
+    pub weight_now : weight ≡ weight_at r t.world.history
+    pub bound : (s.limits.history.entries ≤ entries) ⊎ (s.limits.history.weight ≤ weight)
+
+  pub record IsOpen : Type 0 where
+    pub entries : length t.world.history < s.limits.history.entries
+    pub weight : weight_at r t.world.history < s.limits.history.weight
+
+  -- another call owns the lock, and nothing changes
+  pub record Waits : Type 0 where
+    pub owned : IsAnother t.world.owner t.call.id
+    pub world : t.world_after ≡ t.world
+    pub call : t.call_after ≡ t.call
+
+  -- the call owns the lock, with room for what its holding can add
+  pub record Takes : Type 0 where
+    pub free : IsFree
+    pub bounds : IsOpen
+    pub world : t.world_after ≡ record t.world { owner = Some t.call.id }
+    pub call : t.call_after ≡ record t.call { at = if is_ready_now t then Reading else ReadingFirst; room = most_entries (is_ready_now t) }
+
+  abbrev pub LockRow : Progress (Result ℕ UpdateError) → Type 0
+  LockRow Blocked = Waits
+  LockRow Moved = Takes
+  LockRow (Ended (Err (HistoryFull entries weight))) = IsFree × IsFull entries weight × Stops t
+  LockRow (Ended (Err NoMemory)) = IsFree × IsOpen × Stops t
+  LockRow other = ⊥

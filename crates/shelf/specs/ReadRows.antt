@@ -1,0 +1,43 @@
+-- I2 and I3: main is read, and its value goes through the migrations.
+use Rattle.std.specs.Prelude.{◌≡◌, ℕ, [], None, Result, Err}
+use Rattle.store_traits.specs.declared.update_error.UpdateError.{UpdateError}
+use Rattle.store_traits.specs.declared.update_error.UpdateError.TheVariants as error
+use Rattle.hist_journal.specs.declared.seen.BaseSeen.{BaseSeen}
+use Rattle.hist_journal.specs.declared.seen.BaseSeen.TheVariants.{Held, Corrupt, TooLong}
+use Rattle.shelf.specs.declared.store.Store.{Store}
+use Rattle.shelf.specs.Base.{ReadsAs}
+use Rattle.shelf.specs.Calls.{Migrating, Finishing}
+use Rattle.shelf.specs.Effects.{Does, Fails, GoesOn, Keeps, Stops, StopsReading, next_place}
+use Rattle.shelf.specs.Progress.{Progress, Moved, Ended}
+use Rattle.shelf.specs.World.{Rules, Turned}
+
+module _ {V T M : Type 0} (r : Rules V T) (s : Store V M) (t : Turned V T) where
+  -- main reads so
+  abbrev pub MainReads : BaseSeen V → Type 0
+  MainReads = ReadsAs r.reads r.absent s.limits.file t.world.folder.main
+
+  -- main reads as a value, and this comes of it
+  pub record ReadsValue (Then : V → Type 0) : Type 0 where
+    pub value : V
+    pub read : MainReads (Held value)
+    pub then : Then value
+
+  -- main is read; where it reads as a value, the rest of the row says what comes of it
+  abbrev pub ReadRow : (V → Progress (Result ℕ UpdateError) → Type 0) → Progress (Result ℕ UpdateError) → Type 0
+  ReadRow Then (Ended (Err (error.StorageFault at))) = (at ≡ next_place t.world) × Fails t Keeps
+  ReadRow Then (Ended (Err (error.FileTooLong len))) = MainReads (TooLong len) × StopsReading t
+  -- nothing takes the place of an unreadable file
+  ReadRow Then (Ended (Err error.Corrupt)) = MainReads Corrupt × (s.handler ≡ None) × StopsReading t
+  ReadRow Then (Ended (Err error.NoMemory)) = StopsReading t
+  ReadRow Then other = ReadsValue (λ value. Then value other)
+
+  -- I2: the value goes to the migrations
+  abbrev pub ToMigrations : V → Progress (Result ℕ UpdateError) → Type 0
+  ToMigrations value Moved = Does t Keeps [] (Migrating value)
+  ToMigrations value other = ⊥
+
+  -- I3, without migrations
+  abbrev pub MigrateRow : V → Progress (Result ℕ UpdateError) → Type 0
+  MigrateRow value Moved = (s.migrations ≡ []) × GoesOn t Finishing
+  MigrateRow value (Ended (Err error.NoMemory)) = Stops t
+  MigrateRow value other = ⊥

@@ -1,0 +1,56 @@
+-- What a turn finds and leaves, and what its row works by.
+use Rattle.std.specs.Prelude.{◌≡◌, ℕ, List, [], ◌∷◌, length, min, ◌-◌, ◌^◌, Option, None, IsTrue}
+use Rattle.store_traits.specs.declared.applied.Applied.{Applied}
+use Rattle.store_traits.specs.declared.ids.CallId.{CallId}
+use Rattle.hist_journal.specs.declared.seen.EntrySeen.{EntrySeen}
+use Rattle.hist_journal.specs.Folds.{weight_of}
+use Rattle.folder_disk.specs.Contents.{Contents, Images}
+use Rattle.shelf.specs.declared.store.PlannedDeath.{PlannedDeath}
+use Rattle.shelf.specs.declared.store.Store.{Store}
+use Rattle.shelf.specs.Calls.{Call}
+use Rattle.shelf.specs.Meanings.{Meanings}
+
+-- what transforms, values and files mean
+pub record Rules (V T : Type 0) : Type 1 where
+  pub meanings : Meanings V T
+  -- the text of a value
+  pub encoded : V → List ℕ
+  -- which values bytes read as, and what no file stands for
+  pub reads : List ℕ → V → Type 0
+  pub absent : V
+  -- what a transform weighs
+  pub weight : T → ℕ
+
+-- the version is that of the version word, `faults` the folder's count, and `deaths` those that are not used up
+pub record World (V T : Type 0) : Type 0 where
+  pub folder : Contents
+  pub owner : Option CallId
+  pub history : List (EntrySeen V T)
+  pub deaths : List PlannedDeath
+  pub version : ℕ
+  pub faults : ℕ
+
+-- one turn: the world and the call before it and after it
+pub record Turned (V T : Type 0) : Type 0 where
+  pub world : World V T
+  pub call : Call V T
+  pub world_after : World V T
+  pub call_after : Call V T
+
+-- a session of this store begins in this world
+pub record Begins {V T M : Type 0} (s : Store V M) (w : World V T) : Type 0 where
+  pub main : w.folder.main ≡ s.main
+  pub alone : IsTrue s.alone → w.folder.kept ≡ Images (s.main ∷ [])
+  pub owner : w.owner ≡ None
+  pub history : w.history ≡ []
+  pub deaths : w.deaths ≡ s.deaths
+  pub version : w.version ≡ 0
+  pub faults : w.faults ≡ s.folder.count
+
+-- what a history weighs; it stays at the end of its range
+abbrev pub weight_at : {V T : Type 0} → Rules V T → List (EntrySeen V T) → ℕ
+weight_at r list = min (weight_of r.weight (λ v. length (r.encoded v)) list) (2 ^ 64 - 1)
+
+-- the rules of what transforms make and weigh, and of a codec
+abbrev pub rules_of : {V T : Type 0} → (T → V → Applied V) → (T → ℕ) → (V → List ℕ) → (List ℕ → V → Type 0) → V → Rules V T
+rules_of after weight encoded reads absent = record { meanings = record { after = after }; encoded = encoded; reads = reads; absent = absent; weight = weight }
