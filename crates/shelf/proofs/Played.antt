@@ -1,12 +1,12 @@
 -- A run of the small store that is written down is shown to follow the table by computing it.
-use Rattle.std.proofs.Common.{◌≡◌, ◌≢◌, inl, inr, ◌≤◌, ℕ, ◌+◌, ◌==◌, nat_lt, nat_le, Bool, true, false, ◌&&◌, not, List, [], ◌∷◌, ◌++◌, Option, Some, None, refl, arith, length, slice_get, slice_set, if◌then◌else◌, Result, Ok, Err}
+use Rattle.std.proofs.Common.{◌≡◌, ◌≢◌, inl, inr, ◌≤◌, ℕ, ◌+◌, ◌==◌, nat_lt, nat_le, Bool, true, false, ◌&&◌, not, List, [], ◌∷◌, ◌++◌, Option, Some, None, refl, arith, length, slice_get, slice_set, if◌then◌else◌, unwrap_or, Result, Ok, Err}
 use Rattle.std.proofs.lemmas.Bool.Decides.{nat_tests}
 use Rattle.std.proofs.lemmas.Bool.{eqb-true, eq-eqb}
 use Rattle.store_traits.specs.declared.applied.Applied.{Applied}
 use Rattle.store_traits.specs.declared.applied.Applied.TheVariants.{Changed, Refused}
 use Rattle.store_traits.specs.declared.ids.CallId.{CallId}
 use Rattle.store_traits.specs.declared.update_error.UpdateError.{UpdateError}
-use Rattle.store_traits.specs.declared.update_error.UpdateError.TheVariants.{Died, StorageFault}
+use Rattle.store_traits.specs.declared.update_error.UpdateError.TheVariants.{Died, NotDurable, StorageFault}
 use Rattle.file_lock.specs.Owner.{IsAnother, freed_node}
 use Rattle.folder_disk.specs.Contents.{Unsynced, Synced, scratch_bytes, renamed, folder_synced}
 use Rattle.hist_journal.specs.declared.device.Device.TheVariants.{Folder}
@@ -100,6 +100,7 @@ module _ (s : Store ℕ (Unit {0})) where
     world_then (SyncingScratch plan) Moved = record w { folder = record w.folder { scratch = Synced (scratch_bytes w.folder.scratch) } }
     world_then (Renaming plan) Moved = record w { folder = renamed w.folder; history = with_entries c.id (plan.change ∷ []) w.history }
     world_then (Renaming plan) (Ended answer) = failed
+    world_then (SyncingFolder changed) (Ended (Err error)) = failed
     world_then (SyncingFolder changed) (Ended answer) = record w { folder = folder_synced w.folder; history = with_entries c.id (last_kinds before changed) w.history; owner = freed c.id w.owner }
     world_then at gave = w
 
@@ -142,6 +143,7 @@ module _ (s : Store ℕ (Unit {0})) where
     is_fine (Renaming plan) Moved = true
     is_fine (Renaming plan) (Ended (Err (StorageFault place))) = place == next_place w
     is_fine (SyncingFolder changed) (Ended (Ok edition)) = edition == edition_of w.history
+    is_fine (SyncingFolder changed) (Ended (Err (NotDurable place))) = place == unwrap_or changed (next_place w)
     is_fine at gave = false
 
     abbrev turned : At ℕ ExampleEdit → Progress (Result ℕ UpdateError) → Turned ℕ ExampleEdit
@@ -275,6 +277,8 @@ module _ (s : Store ℕ (Unit {0})) (none : s.migrations ≡ []) where
         (eqb-true place (next_place w) is, record { folder = refl; count = inl (omega arith); world = refl; call = refl })
     row_so (SyncingFolder changed) (Ended (Ok edition)) is =
         (eqb-true edition (edition_of w.history) is, record { folder = refl; faults = omega arith; world = refl; call = refl })
+    row_so (SyncingFolder changed) (Ended (Err (NotDurable place))) is =
+        (eqb-true place (unwrap_or changed (next_place w)) is, record { folder = refl; count = inl (omega arith); world = refl; call = refl })
     row_so at gave is = never is
 
     by_so : (gone died dies : Bool) (gave : Progress (Result ℕ UpdateError)) → fine_by s w c gone died dies gave ≡ true → TurnBy rules s gone died dies (turned_by s w c died dies gave) gave

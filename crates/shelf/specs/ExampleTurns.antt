@@ -3,7 +3,7 @@ use Rattle.std.specs.Prelude.{ℕ, suc, zero, List, [], ◌∷◌, ◌++◌, Opt
 use Rattle.store_traits.specs.declared.ids.CallId.{CallId}
 use Rattle.store_traits.specs.declared.step.Step.TheVariants.{U6}
 use Rattle.store_traits.specs.declared.update_error.UpdateError.{UpdateError}
-use Rattle.store_traits.specs.declared.update_error.UpdateError.TheVariants.{Died, StorageFault}
+use Rattle.store_traits.specs.declared.update_error.UpdateError.TheVariants.{Died, NotDurable, StorageFault}
 use Rattle.folder_disk.specs.Contents.{Contents, Images}
 use Rattle.folder_disk.specs.Contents as folder
 use Rattle.shelf.specs.declared.examples.ExampleEdit.{ExampleEdit}
@@ -110,3 +110,18 @@ rename_fails_start = record { world = at_start empty; calls = update (a 1) (Set 
 
 abbrev pub rename_fails_end : Scene ℕ ExampleEdit
 rename_fails_end = record { world = at_end empty (2 ∷ []) lawful.rename_fails 2 1; calls = over (a 1) (Set 1) 0 ∷ over (a 2) (Set 2) 3 ∷ [] }
+
+-- the sync of the folder fails behind the rename
+abbrev pub sync_fails : List Did
+sync_fails = times 11 (goes 0 ∷ []) ++ answers 0 (Err (NotDurable 3)) ∷ []
+
+abbrev pub sync_fails_start : Scene ℕ Change
+sync_fails_start = record { world = at_start empty; calls = update (a 1) (Set 1) ∷ [] }
+
+-- a machine stop may leave no file or the new one
+abbrev pub sync_fails_end : Scene ℕ Change
+sync_fails_end =
+    record {
+      world = record (at_end empty (1 ∷ []) lawful.sync_fails 1 1) { folder = record (holding None (Some (1 ∷ []))) { kept = Images (None ∷ Some (1 ∷ []) ∷ []) } };
+      calls = over (a 1) (Set 1) 0 ∷ [];
+    }

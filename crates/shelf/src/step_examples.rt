@@ -16,6 +16,7 @@ pub fn runs_follow_the_table()
     ensures equal_value { Run turns.rules example.holds_one turns.equal_value turns.equal_value_start turns.equal_value_end }
     ensures death_after_raise { Run turns.rules turns.deadly turns.death_after_raise turns.death_start turns.death_end }
     ensures rename_fails { Run turns.rules example.empty turns.rename_fails turns.rename_fails_start turns.rename_fails_end }
+    ensures sync_fails { Run turns.rules example.empty turns.sync_fails turns.sync_fails_start turns.sync_fails_end }
 {}
 
 /// The worlds in which they start are those in which a session of their store begins.

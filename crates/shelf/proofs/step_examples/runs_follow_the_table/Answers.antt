@@ -15,4 +15,5 @@ returns c =
       equal_value = Run-computed example.holds_one refl turns.equal_value turns.equal_value_start refl;
       death_after_raise = Run-computed turns.deadly refl turns.death_after_raise turns.death_start refl;
       rename_fails = Run-computed example.empty refl turns.rename_fails turns.rename_fails_start refl;
+      sync_fails = Run-computed example.empty refl turns.sync_fails turns.sync_fails_start refl;
     }
