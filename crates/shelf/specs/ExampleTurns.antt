@@ -115,11 +115,11 @@ rename_fails_end = record { world = at_end empty (2 ∷ []) lawful.rename_fails 
 abbrev pub sync_fails : List Did
 sync_fails = times 11 (goes 0 ∷ []) ++ answers 0 (Err (NotDurable 3)) ∷ []
 
-abbrev pub sync_fails_start : Scene ℕ Change
+abbrev pub sync_fails_start : Scene ℕ ExampleEdit
 sync_fails_start = record { world = at_start empty; calls = update (a 1) (Set 1) ∷ [] }
 
 -- a machine stop may leave no file or the new one
-abbrev pub sync_fails_end : Scene ℕ Change
+abbrev pub sync_fails_end : Scene ℕ ExampleEdit
 sync_fails_end =
     record {
       world = record (at_end empty (1 ∷ []) lawful.sync_fails 1 1) { folder = record (holding None (Some (1 ∷ []))) { kept = Images (None ∷ Some (1 ∷ []) ∷ []) } };

@@ -1,5 +1,6 @@
 //! The state that the nodes of a store share. So far it has the definitions that all turns are judged by: what a store
-//! is, and which histories of it are lawful. It stands on `hist_journal`, `prefs_model` and `store_traits`.
+//! is, which histories of it are lawful, and what a turn of a call may do. It stands on `hist_journal`, and on
+//! `folder_disk`, `scratch_rename` and `file_lock` for what a turn sees.
 //! Its one contract above: a lawful history stays lawful exactly where its next entry fits (`laws`).
 #![tactic(auto)]
 
