@@ -39,12 +39,12 @@ abbrev pub holding : Option (List ℕ) → Option (List ℕ) → Contents
 holding first main = record { main = main; scratch = folder.Gone; kept = Images (main ∷ []); first = first; alone = true }
 
 abbrev pub at_start : Store ℕ (Unit {0}) → World ℕ ExampleEdit
-at_start s = record { folder = holding s.main s.main; owner = None; history = []; deaths = s.deaths; version = 0; faults = 0 }
+at_start s = record { folder = holding s.main s.main; sections = s.sections; owner = None; history = []; deaths = s.deaths; version = 0; faults = 0 }
 
 -- the lock is free, no death is left, and these are main, the history, the version and the count of faults
 abbrev pub at_end : Store ℕ (Unit {0}) → List ℕ → List Entry → ℕ → ℕ → World ℕ ExampleEdit
 at_end s main history version faults =
-    record { folder = holding s.main (Some main); owner = None; history = history; deaths = []; version = version; faults = faults }
+    record { folder = holding s.main (Some main); sections = s.sections; owner = None; history = history; deaths = []; version = version; faults = faults }
 
 abbrev pub times : ℕ → List Did → List Did
 times zero turns = []

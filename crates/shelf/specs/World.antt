@@ -6,6 +6,7 @@ use Rattle.hist_journal.specs.declared.seen.EntrySeen.{EntrySeen}
 use Rattle.hist_journal.specs.Folds.{weight_of}
 use Rattle.folder_disk.specs.Contents.{Contents, Images}
 use Rattle.shelf.specs.declared.store.PlannedDeath.{PlannedDeath}
+use Rattle.shelf.specs.declared.store.SectionSeen.{SectionSeen}
 use Rattle.shelf.specs.declared.store.Store.{Store}
 use Rattle.shelf.specs.Calls.{Call}
 use Rattle.shelf.specs.Meanings.{Meanings}
@@ -24,6 +25,8 @@ pub record Rules (V T : Type 0) : Type 1 where
 -- the version is that of the version word, `faults` the folder's count, and `deaths` those that are not used up
 pub record World (V T : Type 0) : Type 0 where
   pub folder : Contents
+  -- the old settings; no step changes them yet
+  pub sections : List SectionSeen
   pub owner : Option CallId
   pub history : List (EntrySeen V T)
   pub deaths : List PlannedDeath
@@ -40,6 +43,7 @@ pub record Turned (V T : Type 0) : Type 0 where
 -- a session of this store begins in this world
 pub record Begins {V T M : Type 0} (s : Store V M) (w : World V T) : Type 0 where
   pub main : w.folder.main ≡ s.main
+  pub sections : w.sections ≡ s.sections
   pub alone : IsTrue s.alone → w.folder.kept ≡ Images (s.main ∷ [])
   pub owner : w.owner ≡ None
   pub history : w.history ≡ []
