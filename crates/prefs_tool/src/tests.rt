@@ -9,6 +9,9 @@ use folder_disk::{FolderCall, MainRead, MemFolder, Planned};
 use std::alloc::{AllocError, Global};
 use store_traits::FileBytes;
 
+/// `volume` is 5.
+const VOLUME: &[u8] = b"\x0a\x0c\x0a\x06volume\x12\x02\x18\x05";
+
 /// A folder whose main has these bytes, and whose first such call fails.
 fn folder_with(
     alloc: Global,

@@ -1,13 +1,10 @@
 //! Devices that fail.
 ghost use Rattle.std.specs.Prelude.{◌<◌, ◌^◌};
 
-use super::{folder_with, status_of};
+use super::{VOLUME, folder_with, status_of};
 use byte_io::MemSink;
 use folder_disk::FolderCall;
 use std::test::Fail;
-
-/// `volume` is 5.
-const VOLUME: &[u8] = b"\x0a\x0c\x0a\x06volume\x12\x02\x18\x05";
 
 /// The first call that fails, the file before, the command, and the status and the file after it.
 type Row = (
@@ -71,23 +68,23 @@ fn a_folder_that_fails_is_told(rt: HostRuntime) -> Result<(), Fail> {
     Ok(())
 }
 
-/// A command over that file, the write that fails, and what the sink has then.
-const WRITES: [(&str, u32, &str); 5] = [
-    ("show", 1, ""),
-    ("get volume", 1, ""),
-    ("get theme", 1, ""),
-    ("jump", 1, ""),
-    ("show", 2, "\"volume\" int 5\n"),
+/// A command where `volume` is 5, the write that fails, the status, and what the sink has then.
+const WRITES: [(&str, u32, u8, &str); 5] = [
+    ("show", 1, 7, ""),
+    ("get volume", 1, 7, ""),
+    ("get theme", 1, 7, ""),
+    ("jump", 1, 7, ""),
+    ("show", 2, 0, "\"volume\" int 5\n"),
 ];
 
 #[test]
 fn a_sink_that_fails_stands_over_all(rt: HostRuntime) -> Result<(), Fail> {
     let alloc = rt.alloc();
-    for (line, number, printed) in &WRITES {
+    for (line, number, status, printed) in &WRITES {
         let mut sink = MemSink::new(alloc, 64, vec![in alloc; *number]?)?;
         let mut folder = folder_with(alloc, Some(VOLUME), None)?;
-        let status = status_of(alloc, line, &mut sink, &mut folder)?;
-        assert_eq!(rt; (status == 7), (*number == 1), "{line}");
+        let found = status_of(alloc, line, &mut sink, &mut folder)?;
+        assert_eq!(rt; found, *status, "{line}");
         assert_eq!(rt; sink.held(), printed.as_bytes(), "{line}");
     }
     Ok(())

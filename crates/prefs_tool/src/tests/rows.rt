@@ -1,7 +1,7 @@
 //! A file, a command, and what comes of it.
 ghost use Rattle.std.specs.Prelude.{◌<◌, ◌^◌};
 
-use super::{folder_with, status_of};
+use super::{VOLUME, folder_with, status_of};
 use byte_io::MemSink;
 use std::test::Fail;
 
@@ -13,9 +13,6 @@ type Row = (
     &'static str,
     Option<&'static [u8]>,
 );
-
-/// `volume` is 5.
-const VOLUME: &[u8] = b"\x0a\x0c\x0a\x06volume\x12\x02\x18\x05";
 
 /// `a` is 1, and `volume` is 5.
 const BOTH: &[u8] = b"\x0a\x07\x0a\x01a\x12\x02\x18\x01\x0a\x0c\x0a\x06volume\x12\x02\x18\x05";
