@@ -4,7 +4,9 @@ pub mod EntryByEntry
 pub mod FreshLemmas
 pub mod GrowthLemmas
 pub mod ImageLemmas
+pub mod LedgerLemmas
 pub mod LegalLemmas
+pub mod NodeStateLemmas
 pub mod OrderLemmas
 pub mod PendingLemmas
 pub mod Played

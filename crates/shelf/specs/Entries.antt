@@ -25,6 +25,10 @@ module _ {V T : Type 0} where
   is_update (Same t) = true
   is_update other = false
 
+  abbrev pub is_death : KindSeen V T → Bool
+  is_death (Death node) = true
+  is_death other = false
+
   abbrev pub is_fault_or_death : KindSeen V T → Bool
   is_fault_or_death (Fault device count) = true
   is_fault_or_death (Death node) = true

@@ -1,3 +1,4 @@
+pub mod AddsNode
 pub mod ApplyRow
 pub mod Base
 pub mod CallOrder
@@ -10,12 +11,15 @@ pub mod ExampleStore
 pub mod ExampleTurns
 pub mod FaultCounts
 pub mod Images
+pub mod Kept
 pub mod LastRows
 pub mod LawfulExamples
+pub mod Ledger
 pub mod Legal
 pub mod Lifetimes
 pub mod LockRow
 pub mod Meanings
+pub mod NodeStates
 pub mod OldSettings
 pub mod OpenRaise
 pub mod Progress
@@ -23,6 +27,8 @@ pub mod ReadRows
 pub mod Readiness
 pub mod Runs
 pub mod SingleTurns
+pub mod StoreSeen
+pub mod Takes
 pub mod Turn
 pub mod UnlawfulExamples
 pub mod World

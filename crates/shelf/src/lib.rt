@@ -4,9 +4,14 @@
 //! Its one contract above: a lawful history stays lawful exactly where its next entry fits (`laws`).
 #![tactic(auto)]
 
+mod answers;
 mod examples;
 mod laws;
+mod ledger;
+mod node_table;
 mod order_laws;
+mod parts;
+mod setup;
 mod step_examples;
 mod step_laws;
 #[cfg(test)]
@@ -15,6 +20,7 @@ mod store;
 #[cfg(test)]
 mod tests;
 
+pub use answers::{AddNodeError, Loaded, PlanMade, Taken, Want};
 pub use examples::{
     ExampleEdit, histories_are_lawful, histories_are_unlawful, histories_come_to,
     stores_have_their_base,
@@ -26,6 +32,8 @@ pub use laws::{
 pub use order_laws::{
     calls_end, changes_are_raised, counts_rise, numbers_never_fall, updates_end_once,
 };
+pub use parts::{Parts, ValueOf};
+pub use setup::Setup;
 pub use step_examples::{
     runs_follow_the_table, runs_start_where_a_session_begins, wrong_turns_are_refused,
 };

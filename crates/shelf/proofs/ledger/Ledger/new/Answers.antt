@@ -1,0 +1,15 @@
+use Rattle.std.proofs.Common.{arith, refl, ◌∙◌, ◌≡◌, [], rules}
+use Rattle.shelf.proofs.LedgerLemmas.{no_editions, no_raise, no_nodes}
+use Rattle.shelf.proofs.ledger.Ledger.new.Goals as goal
+
+pub invariant_of-result : goal.invariant_of-result
+invariant_of-result g c =
+    let is : c.new.result.list ≡ [] = rw c.new.ensures refl in
+    record {
+      has_room = rw (c.new.ensures, c.new-3.ensures) (omega arith);
+      weight_fits = rw c.new.ensures (omega arith);
+      counts_editions = no_editions _ is;
+      quiet = λ call open_now. no_raise _ is call open_now;
+      ready = λ node. no_nodes _ is node _ c.new-3.ensures;
+      no_deaths = rw c.new.ensures refl;
+    }

@@ -1,0 +1,108 @@
+ghost use Rattle.std.specs.Prelude.{◌≡◌, ◌≢◌, ◌+◌, ◌-◌, ◌≤◌, ◌++◌, ◌∷◌, [], Some, None, true, false, length, OnOk, ◌↔◌};
+ghost use Rattle.file_lock.specs.Owner.{IsAnother};
+ghost use Rattle.hist_journal.specs.declared.seen.KindSeen.TheVariants.{Inited};
+ghost use Rattle.hist_journal.specs.Quiet.{pending};
+ghost use Rattle.shelf.specs.Effects.{freed};
+ghost use Rattle.shelf.specs.Ledger.{ledger_seen, freed_room, Enters};
+ghost use Rattle.shelf.specs.NodeStates.{has_node};
+ghost use Rattle.shelf.specs.LockRow.{most_entries};
+ghost use Rattle.shelf.specs.Takes.{TakeRow};
+
+use super::Ledger;
+use crate::{Taken, Want};
+use hist_journal::{Entry, Kind, ReserveError};
+use std::alloc::AllocError;
+use store_traits::CallId;
+
+/// The most entries that a holding can add which initialises its node: an Inited or a Fault.
+const MOST_OF_INIT: u16 = 1;
+
+/// The most that an update can: a Raise, an Edit, and a Synced or a Fault.
+const MOST_OF_UPDATE: u16 = 3;
+
+impl<V: Drop, T: Drop> Ledger<V, T> {
+    /// Takes the lock, with room for the most entries that this holding can add, beside the room of each node's Death.
+    pub fn take(&mut self, call: CallId, want: Want) -> Taken
+        ensures { TakeRow call result (ledger_seen self.old) (ledger_seen self.new) }
+    {
+        if self.is_taken_from(call) {
+            return Taken::Blocked;
+        }
+        let is_ready = self.nodes.is_ready(call.node);
+        let most = most_entries(is_ready, want);
+        match self.journal.reserve(self.nodes.len() + u32::from(most)) {
+            Ok(()) => {
+                self.lock.try_lock(call);
+                self.reserved = most;
+                if is_ready { Taken::Held } else { Taken::Init }
+            }
+            Err(ReserveError::HistoryFull { entries, weight }) => Taken::HistoryFull {
+                entries,
+                weight,
+            },
+            Err(ReserveError::NoMemory) => Taken::NoMemory,
+        }
+    }
+
+    /// Makes room for one entry of a call that does not own the lock, beside all that is kept.
+    pub fn make_room(&mut self) -> Result<(), AllocError>
+        ensures room { OnOk result (self.old.reserved + length self.old.nodes + 1 ≤ self.new.journal.room) }
+        ensures same { ledger_seen self.new ≡ ledger_seen self.old }
+    {
+        self.journal
+            .reserve_past(u32::from(self.reserved) + self.nodes.len() + 1)
+    }
+
+    /// Frees the lock, if this call owns it.
+    pub fn free(&mut self, call: CallId)
+        requires ended { pending self.old.journal.list ≢ Some call }
+        ensures { Enters call [] 0 (freed call self.old.lock) (freed_room call self.old.lock self.old.reserved) (ledger_seen self.old) (ledger_seen self.new) }
+    {
+        if self.is_owner(call) {
+            self.lock.release(call);
+            self.reserved = 0;
+        }
+    }
+
+    /// The node is initialised, and the lock is free.
+    pub fn finish_init(&mut self, call: CallId)
+        requires owner { self.old.lock ≡ Some call }
+        requires ended { pending self.old.journal.list ≢ Some call }
+        requires room { 1 ≤ self.old.reserved }
+        requires node { has_node call.node self.old.nodes ≡ true }
+        ensures { Enters call (Inited call.node ∷ []) 0 None 0 (ledger_seen self.old) (ledger_seen self.new) }
+    {
+        self.journal.push(
+            Entry {
+                who: call,
+                kind: Kind::Inited(call.node),
+            },
+            0,
+        );
+        self.nodes.make_ready(call.node);
+        self.lock.release(call);
+        self.reserved = 0;
+    }
+
+    /// This call owns the lock.
+    pub(super) fn is_owner(&self, call: CallId) -> bool
+        ensures { (result ≡ true) ↔ (self.now.lock ≡ Some call) }
+    {
+        self.lock.owner() == Some(call)
+    }
+
+    /// Another call owns the lock.
+    fn is_taken_from(&self, call: CallId) -> bool
+        ensures { (result ≡ true) ↔ IsAnother self.now.lock call }
+    {
+        self.lock.owner().is_some_and(|owner| owner != call)
+    }
+}
+
+fn most_entries(is_ready: bool, want: Want) -> u16
+    ensures { result ≡ most_entries is_ready }
+{
+    match want {
+        Want::Update => if is_ready { MOST_OF_UPDATE } else { MOST_OF_INIT },
+    }
+}

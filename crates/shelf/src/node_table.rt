@@ -1,0 +1,105 @@
+ghost use Rattle.std.specs.Prelude.{◌≡◌, ◌≤◌, ◌^◌, ◌||◌, ◌++◌, ◌∷◌, [], true, false, length, position, OnOk, OnErr};
+ghost use Rattle.store_traits.specs.declared.ids.NodeId.{NodeId};
+ghost use Rattle.hist_journal.specs.Kinds.{is_node};
+ghost use Rattle.shelf.specs.NodeStates.{ids, has_node, has_ready};
+
+use std::alloc::{AllocError, Global};
+use std::marker::Model;
+use store_traits::NodeId;
+
+/// A node of the store.
+#[derive(Clone, Copy, Debug, PartialEq, Eq)]
+pub struct NodeState {
+    pub id: NodeId,
+    /// The node is initialised.
+    pub is_ready: bool,
+}
+
+/// How many nodes a table may have.
+const MOST_NODES: usize = 0x8000_0000;
+
+/// The nodes of a store, in the order in which they were added, at most 2^31. Clauses see the list. A node is looked
+/// for from the first one on: a store has few.
+#[derive(Drop)]
+pub struct NodeTable {
+    states: Vec<NodeState>,
+}
+
+impl Model for NodeTable {
+    ghost use Rattle.std.specs.Prelude.{List};
+    ghost use Rattle.shelf.specs.declared.node_table.NodeState.{NodeState};
+
+    ghost Value = { List NodeState };
+
+    ghost view = { λ table. table.states.items };
+
+    ghost use Rattle.std.specs.Prelude.{◌<◌, ◌^◌, ◌≤◌, length, vec_len};
+
+    ghost invariant = { λ table. vec_len table.states ≤ 2 ^ 31 };
+}
+
+impl NodeTable {
+    pub fn new(alloc: Global) -> NodeTable
+        ensures { result ≡ [] }
+    {
+        NodeTable {
+            states: Vec::new(alloc),
+        }
+    }
+
+    /// How many nodes there are.
+    pub fn len(&self) -> u32
+        ensures len { result ≡ length self.now }
+        ensures few { result ≤ 2 ^ 31 }
+    {
+        self.states.len() as u32
+    }
+
+    pub fn has(&self, node: NodeId) -> bool
+        ensures { result ≡ has_node node self.now }
+    {
+        self.states.iter().any(|state| state.id == node)
+    }
+
+    /// Adds a node that is not initialised. Without memory the table is as before.
+    pub fn add(&mut self, node: NodeId) -> Result<(), AllocError>
+        ensures ok { OnOk result (self.new ≡ self.old ++ record { id = node; is_ready = false } ∷ []) }
+        ensures err { OnErr result (self.new ≡ self.old) }
+    {
+        if self.states.len() >= MOST_NODES {
+            return Err(AllocError);
+        }
+        self.states.push(NodeState {
+            id: node,
+            is_ready: false,
+        })?;
+        Ok(())
+    }
+
+    /// The node is there, and initialised.
+    pub fn is_ready(&self, node: NodeId) -> bool
+        ensures { result ≡ has_ready node self.now }
+    {
+        self.states
+            .iter()
+            .any(|state| state.id == node && state.is_ready)
+    }
+
+    /// The node is initialised from now on.
+    pub fn make_ready(&mut self, node: NodeId)
+        requires { has_node node self.old ≡ true }
+        ensures nodes { ids self.new ≡ ids self.old }
+        ensures ready { (other : NodeId) → has_ready other self.new ≡ (is_node other node || has_ready other self.old) }
+    {
+        if let Some(place) = self.place_of(node) {
+            self.states[place].is_ready = true;
+        }
+    }
+
+    /// The index of the node.
+    fn place_of(&self, node: NodeId) -> Option<usize>
+        ensures { result ≡ position (λ state. is_node state.id node) self.now }
+    {
+        self.states.iter().position(|state| state.id == node)
+    }
+}
