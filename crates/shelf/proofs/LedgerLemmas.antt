@@ -11,11 +11,11 @@ use Rattle.hist_journal.specs.declared.device.Device.TheVariants.{Folder}
 use Rattle.hist_journal.specs.declared.seen.EntrySeen.{EntrySeen}
 use Rattle.hist_journal.specs.declared.seen.KindSeen.{KindSeen}
 use Rattle.hist_journal.specs.declared.seen.KindSeen.TheVariants.{Raise, Edit, Same, Replace, Migrate, Synced, Cleared, Inited, Fault, Death, Restart}
-use Rattle.hist_journal.specs.Folds.{edition_of}
+use Rattle.hist_journal.specs.Folds.{edition_of, raises_of}
 use Rattle.hist_journal.specs.Kinds.{is_call, is_node, is_raise, is_change}
 use Rattle.hist_journal.specs.Nodes.{is_ready, last_mark, mark_if, ready_mark}
 use Rattle.hist_journal.specs.Quiet.{ends, pending, pending_after, still_pending}
-use Rattle.hist_journal.proofs.FoldLemmas.{edition_of-push, edition_of-le, edition_of-other}
+use Rattle.hist_journal.proofs.FoldLemmas.{edition_of-push, edition_of-le, edition_of-other, raises_of-le, raises_of-raise}
 use Rattle.hist_journal.proofs.NodeLemmas.{is_ready-push}
 use Rattle.hist_journal.proofs.QuietLemmas.{pending-push}
 use Rattle.shelf.specs.declared.node_table.NodeState.{NodeState}
@@ -79,6 +79,9 @@ module _ {V T : Type 0} (list new : List (EntrySeen V T)) (e : EntrySeen V T) (i
 
   pub editions_fit : (edition changes : ℕ) → edition ≡ edition_of list → changes ≡ cond (is_change e.kind) 1 0 → edition + changes ≤ length new
   editions_fit edition changes same so = omega (arith, edition_of-le new, editions changes so)
+
+  pub raises_fit : is_raise e.kind ≡ true → raises_of list + 1 ≤ length new
+  raises_fit raises = omega (arith, raises_of-le new, ap raises_of is ∙ raises_of-raise list e raises)
 
   pub other_edition : is_change e.kind ≡ false → edition_of new ≡ edition_of list
   other_edition other = ap edition_of is ∙ edition_of-other list e other

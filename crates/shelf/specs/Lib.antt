@@ -6,6 +6,7 @@ pub mod Calls
 pub mod Changes
 pub mod Deaths
 pub mod Effects
+pub mod Endings
 pub mod Entries
 pub mod ExampleStore
 pub mod ExampleTurns
@@ -17,15 +18,20 @@ pub mod LawfulExamples
 pub mod Ledger
 pub mod Legal
 pub mod Lifetimes
+pub mod Loading
 pub mod LockRow
 pub mod Meanings
 pub mod NodeStates
 pub mod OldSettings
 pub mod OpenRaise
+pub mod Opening
+pub mod Plans
 pub mod Progress
 pub mod ReadRows
 pub mod Readiness
 pub mod Runs
+pub mod ShelfSeen
+pub mod ShelfTurns
 pub mod SingleTurns
 pub mod StoreSeen
 pub mod Takes
@@ -33,3 +39,4 @@ pub mod Turn
 pub mod UnlawfulExamples
 pub mod World
 pub mod WriteRows
+pub mod WritingSteps

@@ -12,6 +12,8 @@ mod node_table;
 mod order_laws;
 mod parts;
 mod setup;
+mod shelf;
+mod shelf_parts;
 mod step_examples;
 mod step_laws;
 #[cfg(test)]
@@ -34,6 +36,8 @@ pub use order_laws::{
 };
 pub use parts::{Parts, ValueOf};
 pub use setup::Setup;
+pub use shelf::Shelf;
+pub use shelf_parts::ShelfParts;
 pub use step_examples::{
     runs_follow_the_table, runs_start_where_a_session_begins, wrong_turns_are_refused,
 };

@@ -44,11 +44,16 @@ impl<V: Drop, T: Drop> Ledger<V, T> {
         }
     }
 
-    /// Makes room for one entry of a call that does not own the lock, beside all that is kept.
-    pub fn make_room(&mut self) -> Result<(), AllocError>
-        ensures room { OnOk result (self.old.reserved + length self.old.nodes + 1 ≤ self.new.journal.room) }
+    /// Makes room for one entry of a call, beside all that is kept for others, also where the history is full. The owner of
+    /// the lock has it already.
+    pub fn make_room(&mut self, call: CallId) -> Result<(), AllocError>
+        requires room { self.old.lock ≡ Some call → 1 ≤ self.old.reserved }
+        ensures room { OnOk result (freed_room call self.old.lock self.old.reserved + length self.old.nodes + 1 ≤ self.new.journal.room) }
         ensures same { ledger_seen self.new ≡ ledger_seen self.old }
     {
+        if self.is_owner(call) {
+            return Ok(());
+        }
         self.journal
             .reserve_past(u32::from(self.reserved) + self.nodes.len() + 1)
     }

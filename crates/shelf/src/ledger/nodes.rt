@@ -1,4 +1,5 @@
 ghost use Rattle.std.specs.Prelude.{◌≡◌, ◌++◌, ◌∷◌, [], None, true, false, OnOk, IfErr};
+ghost use Rattle.hist_journal.specs.Journal.{KeepsHistory};
 ghost use Rattle.hist_journal.specs.View.{base_seen};
 ghost use Rattle.shelf.specs.AddsNode.{AddsNode, RefusesNode};
 ghost use Rattle.shelf.specs.Ledger.{ledger_seen};
@@ -30,6 +31,7 @@ impl<V: Drop, T: Drop> Ledger<V, T> {
         ensures ok { OnOk result (AddsNode node (ledger_seen self.old) (ledger_seen self.new)) }
         ensures err { IfErr result (λ error. RefusesNode node (ledger_seen self.old).nodes error) }
         ensures same { IfErr result (λ error. ledger_seen self.new ≡ ledger_seen self.old) }
+        ensures history { KeepsHistory self.old.journal self.new.journal }
     {
         if self.nodes.has(node) {
             return Err(AddNodeError::Exists);
