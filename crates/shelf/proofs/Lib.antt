@@ -5,6 +5,7 @@ pub mod DeathLemmas
 pub mod EndingLemmas
 pub mod EntryByEntry
 pub mod FreshLemmas
+pub mod GoingOn
 pub mod GrowthLemmas
 pub mod ImageLemmas
 pub mod KeptLemmas

@@ -59,7 +59,7 @@ module _ (node : NodeId) (states now : List NodeState) (i : ℕ) (d : NodeState)
       let own : is_node d.id node ≡ true = ap (λ (state : NodeState). is_node state.id node) at ∙ there.1 in
       let p = λ (state : NodeState). is_node state.id other && state.is_ready in
       let raised : p (get_or states i d) ≡ true → p (record { id = d.id; is_ready = true }) ≡ true =
-          λ was. ap (λ (state : NodeState). is_node state.id other && true) at ∙ kept_first (is_node (get_or states i d).id other) (get_or states i d).is_ready was in
+      λ was. ap (λ (state : NodeState). is_node state.id other && true) at ∙ kept_first (is_node (get_or states i d).id other) (get_or states i d).is_ready was in
       list_any-raised p states i (record { id = d.id; is_ready = true }) d there.0 raised
       ∙ (ap (λ b. b || list_any p states) (same_node d.id.0 other.0 node.0 own) ∙ ap (λ xs. is_node other node || list_any p xs) same)
 

@@ -36,20 +36,20 @@ module _ {V T : Type 0} (r : Rules V T) (I : V → Type 0) (told : Bool) (c c' :
   kept_new none weightless starts counted reads =
       let s = store_with told c' t' limit first_faults l.journal l.nodes in
       let empty : Kept r I s told c' t'.count 0 [] =
-          record {
-            main =
-                λ is.
-                let first : s.main ≡ c.main = told_is told c'.first None is ∙ (starts is).first in
-                record {
-                  legal = Legal-empty r.meanings s;
-                  main = (starts is).main ∙ sym first;
-                  base = rw first (reads is);
-                  changed = λ some. absurd (some refl);
-                };
-            weight_now = omega arith;
-            first = counted;
-            counts = λ greater low. refl;
-          } in
+      record {
+        main =
+            λ is.
+            let first : s.main ≡ c.main = told_is told c'.first None is ∙ (starts is).first in
+            record {
+              legal = Legal-empty r.meanings s;
+              main = (starts is).main ∙ sym first;
+              base = rw first (reads is);
+              changed = λ some. absurd (some refl);
+            };
+        weight_now = omega arith;
+        first = counted;
+        counts = λ greater low. refl;
+      } in
       rw (none, weightless) (∣ empty ∣₁)
 
 -- the same store with other nodes

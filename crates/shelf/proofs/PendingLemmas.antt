@@ -57,7 +57,7 @@ still_open is_ended None call is = absurd (cc)
 still_open is_ended (Some d) call is = kept_open is_ended d call (is_ended d) refl is
 
 module _ {V T : Type 0} where
-  has_open_raise-push : (call : CallId) (list : List (EntrySeen V T)) (e : EntrySeen V T)
+  pub has_open_raise-push : (call : CallId) (list : List (EntrySeen V T)) (e : EntrySeen V T)
       → has_open_raise call (list ++ e ∷ []) ≡ ((has_open_raise call list && not (spends call e)) || is_own is_raise call e)
   unfolding has_open_raise
   has_open_raise-push call [] e = alone (is_own is_raise call e)

@@ -75,7 +75,7 @@ module _ {V T : Type 0} (after : T → V → Applied V) where
       ap (λ (b : BaseSeen V). value_of after b es) (value_after-other after value e.kind parts.0) ∙ unchanged value es parts.1
 
 module _ {V T M : Type 0} (r : Rules V T) (I : V → Type 0) (s : Store V M) (low : s.limits.file < 2 ^ 63) (read_once : (bytes : List ℕ) (v w : V) → r.reads bytes v → r.reads bytes w → v ≡ w)
-  (read_back : (v : V) → I v → length (r.encoded v) < 2 ^ 64 → r.reads (r.encoded v) v) where
+    (read_back : (v : V) → I v → length (r.encoded v) < 2 ^ 64 → r.reads (r.encoded v) v) where
   -- main reads as the value of the history
   value_reads : (folder : Contents) (list : List (EntrySeen V T)) (n : ℕ) → edition_of list ≡ n → KeptMain r I s folder list → ReadsAs r.reads r.absent s.limits.file folder.main (value_at r.meanings s list)
   unfolding folds.main_of text_or
@@ -85,7 +85,7 @@ module _ {V T M : Type 0} (r : Rules V T) (I : V → Type 0) (s : Store V M) (lo
   value_reads folder list (suc n) some k =
       let stored = k.changed (λ none. absurd (omega (arith, some, none))) in
       let text : folder.main ≡ Some (r.encoded stored.value) =
-          k.main ∙ (some_change (edition_of list) n s.main _ some ∙ ap (λ (b : BaseSeen V). text_or r.meanings.after r.encoded b s.main) stored.held) in
+      k.main ∙ (some_change (edition_of list) n s.main _ some ∙ ap (λ (b : BaseSeen V). text_or r.meanings.after r.encoded b s.main) stored.held) in
       rw (text, stored.held) (stored.may.fits, read_back stored.value stored.may.known (omega (arith, low, stored.may.fits)))
 
   pub value_is : (folder : Contents) (list : List (EntrySeen V T)) (b : BaseSeen V) → KeptMain r I s folder list → ReadsAs r.reads r.absent s.limits.file folder.main b → value_of r.meanings.after s.base list ≡ b

@@ -108,6 +108,10 @@ fn most_entries(is_ready: bool, want: Want) -> u16
     ensures { result ≡ most_entries is_ready }
 {
     match want {
-        Want::Update => if is_ready { MOST_OF_UPDATE } else { MOST_OF_INIT },
+        Want::Update => if is_ready {
+            MOST_OF_UPDATE
+        } else {
+            MOST_OF_INIT
+        },
     }
 }

@@ -17,12 +17,7 @@ use store_traits::{CallId, Codec, NodeId};
 
 impl<P: Parts> Shelf<P> {
     /// Begins a session over this folder, whose main reads as the base. It takes no memory.
-    pub fn new(
-        alloc: Global,
-        setup: Setup<P>,
-        base: Base<ValueOf<P>>,
-        mut folder: P::F,
-    ) -> Shelf<P>
+    pub fn new(alloc: Global, setup: Setup<P>, base: Base<ValueOf<P>>, mut folder: P::F) -> Shelf<P>
         requires limit { setup.limit < 2 ^ 63 }
         requires base { IsTrue P.F.told → ReadsAs (P.C.reads setup.codec) (P.C.default_of setup.codec) setup.limit (P.F.contents folder).main (base_seen base) }
         ensures shelf { Opens P.F.told (P.F.contents folder) (P.F.tally folder) setup.limit setup.bounds (base_seen base) (shelf_seen result) }

@@ -67,12 +67,7 @@ impl<P: Parts> Shelf<P> {
 }
 
 /// What a read of main that went well gives, at this edition.
-fn load<C: Codec>(
-    alloc: Global,
-    codec: &C,
-    edition: u64,
-    read: MainRead,
-) -> Loaded<C::Value>
+fn load<C: Codec>(alloc: Global, codec: &C, edition: u64, read: MainRead) -> Loaded<C::Value>
     ensures decodes { DecodesAs (C.reads codec.now) (C.default_of codec.now) read result }
     ensures edition { IsOfEdition edition result }
 {

@@ -1,0 +1,1 @@
+//! The turns of the shelf at the types of the program.
