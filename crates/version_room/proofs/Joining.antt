@@ -62,9 +62,9 @@ module _ {S D E H : Type 0} (m : Meaning S D E H) (head : D) where
   two_others t views id other both spent rest mine theirs =
       others m head t (set views id both) other spent (λ j u off at.
       ⊎_elim
-          (λ (x : (j ≡ id) × (both ≡ u)). subst (λ (y : ℕ × V). Fits m head t y.0 y.1) (λ i. (sym x.0 i, x.1 i)) mine)
-          (λ (x : (j ≢ id) × (get_elem? views j ≡ some u)). rest j u x.0 off x.1)
-          (at_set views id j both u at)) theirs
+      (λ (x : (j ≡ id) × (both ≡ u)). subst (λ (y : ℕ × V). Fits m head t y.0 y.1) (λ i. (sym x.0 i, x.1 i)) mine)
+      (λ (x : (j ≢ id) × (get_elem? views j ≡ some u)). rest j u x.0 off x.1)
+      (at_set views id j both u at)) theirs
 
   pub gathers_keeps : (id : ℕ) (v : V) (other : ℕ) (w : V) → v.stage ≡ Outside → w.stage ≡ Outside → Joins (Keeps m head) id v other w (gathers v w) given_up
   gathers_keeps id v other w idle idle' s r at apart there =

@@ -13,7 +13,7 @@ use Rattle.version_room.specs.declared.view.Stage.{Stage}
 use Rattle.version_room.specs.declared.view.Stage.TheVariants.{Outside, Waiting, InTurn}
 use Rattle.version_room.specs.declared.view.View.{View}
 use Rattle.version_room.specs.Known.{HasClient, with_turn}
-use Rattle.version_room.specs.Seats.{Carries, IsOf, IsSame, known}
+use Rattle.version_room.specs.Seats.{Carries, IsOf, IsSame, head_of, known}
 use Rattle.version_room.specs.Steps.{Welcomes}
 use Rattle.version_room.specs.Turns.{AreOwn, Begins, Follows, HasLeft, Since, StaysHeld, Turned, begun_of, made_of, number_of}
 use Rattle.version_room.specs.Views.{after_turn, staged}
@@ -36,13 +36,16 @@ module _ {S D E H : Type 0} (m : Meaning S D E H) where
   abbrev emptied : Ms → Ms
   emptied me = (me.0, (0, None) ∷ [])
 
+  -- the state waits to be taken
+  pub waits : (before entered : It) → Begins m before entered → (x : S) × Carries entered.me (Some x)
+  waits before entered b = (b.entry, ap (λ (y : Ms). y.1) b.turned.now_is)
+
   -- What `take` gave is the state at entry. The turn has raised nothing yet
   pub took : (before entered taken : It) (x : S) → Begins m before entered → Carries entered.me (Some x) → taken.me ≡ emptied entered.me → IsSame entered taken → Since m before x 0 taken × Welcomes m x (known before)
   took before entered taken x b carried is same =
       let t = b.turned in
       let one : b.entry ≡ x = one_state b.entry x (sym (ap (λ (y : Ms). y.1) t.now_is) ∙ carried) in
-      subst (λ (y : S). Since m before y 0 taken × Welcomes m y (known before)) one
-      (
+      subst (λ (y : S). Since m before y 0 taken × Welcomes m y (known before)) one (
         record {
           same = (same.0 ∙ t.same.0, same.1 ∙ t.same.1);
           head = t.head;
@@ -66,6 +69,10 @@ module _ {S D E H : Type 0} (m : Meaning S D E H) where
       let lists : raises m since.begun.list ≡ raises m (m.list x) = ap (raises m) since.list in
       let often : since.begun.raised ≡ r = since.raised in
       omega arith
+
+  -- the state at entry has the head of the room's state
+  pub head_since : (room : Room S D E H) (before now : It) (x : S) (r : ℕ) → IsOf m room before → Since m before x r now → m.head x ≡ head_of m room
+  head_since room before now x r of since = let same : Some (m.head x) ≡ Some (head_of m room) = sym since.head ∙ of.head in cc same
 
   abbrev turn_of : Stage E H → Begun E H → Type 0
   turn_of stage b = (c : Begun E H) × (stage ≡ InTurn c) × (c.list ≡ b.list) × (c.holding ≡ b.holding)
@@ -128,6 +135,10 @@ module _ {S D E H : Type 0} (m : Meaning S D E H) where
         others = others;
         raised = ap (raises m) lists ∙ raises-append m (m.list x) new;
       }
+
+  -- as with one more, behind a list that is the one at entry
+  pub follows_one : (k : Known E H) (x y : S) (e : E) (list : List E) → m.head y ≡ m.head x → list ≡ m.list x → m.list y ≡ list ++ e ∷ [] → HasClient k (m.client e) → ((h : H) → m.holding x ≡ Some h → HasClient k (m.holder h) ⊎ StaysHeld m y h) → Follows m k x (raises m (e ∷ [])) y
+  follows_one k x y e list heads same more own others = follows_more k x y (e ∷ []) heads (more ∙ ap (λ (l : List E). l ++ e ∷ []) same) (All-cons (λ e. HasClient k (m.client e)) e [] own (All-nil (λ e. HasClient k (m.client e)))) others
 
   -- and as it was taken
   pub follows_unchanged : (k : Known E H) (x y : S) → m.head y ≡ m.head x → m.list y ≡ m.list x → m.holding y ≡ m.holding x → Follows m k x 0 y

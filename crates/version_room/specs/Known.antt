@@ -20,6 +20,10 @@ module _ {E H : Type 0} where
   abbrev pub HasClient : Known E H → ℕ → Type 0
   HasClient k n = (k.low ≤ n) × (n < k.high)
 
+  -- these are its client numbers
+  abbrev pub HasClients : Known E H → ℕ → ℕ → Type 0
+  HasClients k low high = (k.low ≡ low) × (k.high ≡ high)
+
   abbrev pub HasSomeClient : Known E H → Type 0
   HasSomeClient k = (k.low < k.high) × (k.high ≤ all_clients)
 

@@ -23,7 +23,8 @@ impl<S: Listed> Room<S> {
     pub fn note(&self, pass: &mut Pass<S>) -> Note<S>
         requires { IsOf S.meaning self.now pass.old.seat }
         ensures room { IsOf S.meaning self.now pass.new.seat × IsOf S.meaning self.now result.seat }
-        ensures pass { IsSame pass.old.seat pass.new.seat × (known pass.new.seat ≡ known pass.old.seat) }
+        ensures same { IsSame pass.old.seat pass.new.seat }
+        ensures pass { known pass.new.seat ≡ known pass.old.seat }
         ensures note { (known result.seat).seen ≡ (known pass.old.seat).seen }
     {
         Note {
@@ -36,7 +37,8 @@ impl<S: Listed> Room<S> {
         requires pass { IsOf S.meaning self.now pass.old.seat }
         requires note { IsOf S.meaning self.now note.seat }
         ensures room { IsOf S.meaning self.now pass.new.seat }
-        ensures pass { IsSame pass.old.seat pass.new.seat × (known pass.new.seat ≡ with_told (known pass.old.seat) (known note.seat).seen) }
+        ensures same { IsSame pass.old.seat pass.new.seat }
+        ensures pass { known pass.new.seat ≡ with_told (known pass.old.seat) (known note.seat).seen }
         ensures seen { IsPrefix (known pass.old.seat).seen (known pass.new.seat).seen }
         ensures told { IsPrefix (known note.seat).seen (known pass.new.seat).seen }
     {

@@ -27,7 +27,8 @@ impl<S: Listed> Room<S> {
         requires room { IsOf S.meaning self.now from.old.seat }
         requires number { CanSpare S.meaning (known from.old.seat) }
         ensures room { IsOf S.meaning self.now from.new.seat × IsOf S.meaning self.now result.seat }
-        ensures from { IsSame from.old.seat from.new.seat × (known from.new.seat ≡ with_the_rest (known from.old.seat)) }
+        ensures same { IsSame from.old.seat from.new.seat }
+        ensures from { known from.new.seat ≡ with_the_rest (known from.old.seat) }
         ensures new { known result.seat ≡ with_the_least (known from.old.seat) }
     {
         Pass {
@@ -39,7 +40,8 @@ impl<S: Listed> Room<S> {
     pub fn load_version(&self, pass: &mut Pass<S>) -> u64
         requires { IsOf S.meaning self.now pass.old.seat }
         ensures room { IsOf S.meaning self.now pass.new.seat }
-        ensures pass { IsSame pass.old.seat pass.new.seat × (known pass.new.seat ≡ with_load (known pass.old.seat) result) }
+        ensures same { IsSame pass.old.seat pass.new.seat }
+        ensures pass { known pass.new.seat ≡ with_load (known pass.old.seat) result }
         ensures seen { raises S.meaning (known pass.old.seat).seen ≤ result }
         ensures last { (known pass.old.seat).last ≤ result }
     {

@@ -25,7 +25,8 @@ impl<S: Listed> Room<S> {
     pub fn new(alloc: Global, state: S) -> Result<(Room<S>, Pass<S>), S>
         requires { S.meaning.list state ≡ [] }
         ensures head { IfOk result (λ r. head_of S.meaning r.0 ≡ S.meaning.head state) }
-        ensures pass { IfOk result (λ r. IsOf S.meaning r.0 r.1.seat × (known r.1.seat ≡ first_known)) }
+        ensures room { IfOk result (λ r. IsOf S.meaning r.0 r.1.seat) }
+        ensures pass { IfOk result (λ r. known r.1.seat ≡ first_known) }
         ensures err { IfErr result (λ back. back ≡ state) }
     {
         state.show_lawful();
@@ -60,7 +61,8 @@ impl<S: Listed> Room<S> {
     /// The seat takes in what is known of these passes.
     fn gather(&self, seat: &mut Seat<Option<S>, ViewOf<S>>, mut rest: Vec<Pass<S>>)
         requires { IsOf S.meaning self.now seat.old × All (λ other. IsOf S.meaning self.now other.seat) rest.items }
-        ensures same { IsSame seat.old seat.new × Rests seat.new.me × (known seat.new ≡ known seat.old) }
+        ensures same { IsSame seat.old seat.new × Rests seat.new.me }
+        ensures pass { known seat.new ≡ known seat.old }
         ensures all { seat.new.me.0.gathered ≡ all_known rest.items }
     {
         while let Some(pass) = rest.pop() {

@@ -67,8 +67,8 @@ impl<S: Listed> Room<S> {
         ensures entered { Enters S.meaning pass.old.seat.me pass.new.seat.me }
     {
         for _ in rt.forever() {
-            let found = self.table.shared.load::<Look>(&mut pass.seat, SERVING);
-            if found == ticket {
+            let served = self.table.shared.load::<Look>(&mut pass.seat, SERVING);
+            if served == ticket {
                 return;
             }
             yield_now();
@@ -121,7 +121,8 @@ impl<'a, S: Listed> Turn<'a, S> {
     pub fn take(&mut self) -> S
         requires { (state : S) × Carries self.old.pass.now.seat.me (Some state) }
         ensures room { self.new.room.now ≡ self.old.room.now }
-        ensures pass { (self.new.pass.ghost_name ≡ self.old.pass.ghost_name) × IsSame self.old.pass.now.seat self.new.pass.now.seat }
+        ensures pass { self.new.pass.ghost_name ≡ self.old.pass.ghost_name }
+        ensures same { IsSame self.old.pass.now.seat self.new.pass.now.seat }
         ensures state { Carries self.old.pass.now.seat.me (Some result) }
         ensures taken { self.new.pass.now.seat.me ≡ (self.old.pass.now.seat.me.0, (0, None) ∷ []) }
     {
