@@ -15,11 +15,11 @@ use Rattle.version_room.specs.declared.view.Known.{Known}
 use Rattle.version_room.specs.declared.view.Stage.TheVariants.{Outside, Waiting, InTurn}
 use Rattle.version_room.specs.declared.view.View.{View}
 use Rattle.version_room.specs.Closing.{EndsWell, HaveAllClients}
-use Rattle.version_room.specs.Known.{HasClient, HasSomeClient}
+use Rattle.version_room.specs.Known.{HasClient, HasSomeClient, StaysHeld}
 use Rattle.version_room.specs.Rule.{Keeps}
 use Rattle.version_room.specs.Seats.{Carries, IsOf, IsSame}
 use Rattle.version_room.specs.Steps.{Enters, ends, looks}
-use Rattle.version_room.specs.Turns.{Begins, Follows, HasLeft, MayLeave, Since, StaysHeld}
+use Rattle.version_room.specs.Turns.{Begins, Follows, HasLeft, MayLeave, Since}
 use Rattle.version_room.specs.Views.{after_turn, first_view, staged}
 use Rattle.version_room.proofs.Ending.{MayFollow, ends_keeps}
 use Rattle.version_room.proofs.Looking.{looks_keeps}

@@ -12,10 +12,9 @@ use Rattle.version_room.specs.declared.view.Known.{Known}
 use Rattle.version_room.specs.declared.view.Stage.{Stage}
 use Rattle.version_room.specs.declared.view.Stage.TheVariants.{Outside, Waiting, InTurn}
 use Rattle.version_room.specs.declared.view.View.{View}
-use Rattle.version_room.specs.Known.{HasClient, held_if, own_holding}
+use Rattle.version_room.specs.Known.{HasClient, held_if, own_holding, StaysHeld}
 use Rattle.version_room.specs.Rule.{Moment, Stands, HasTurn, Fits, IsTrueOf, IsTrueAt, Keeps}
 use Rattle.version_room.specs.Steps.{ends}
-use Rattle.version_room.specs.Turns.{StaysHeld}
 use Rattle.version_room.specs.Views.{after_turn}
 use Rattle.version_room.proofs.EntryLemmas.{within, of_clients-append, of_clients-all, of_clients-none}
 use Rattle.version_room.proofs.ListLemmas.{prefix_here, prefix_trans, rest_joins}

@@ -12,10 +12,10 @@ use Rattle.version_room.specs.declared.view.Known.{Known}
 use Rattle.version_room.specs.declared.view.Stage.{Stage}
 use Rattle.version_room.specs.declared.view.Stage.TheVariants.{Outside, Waiting, InTurn}
 use Rattle.version_room.specs.declared.view.View.{View}
-use Rattle.version_room.specs.Known.{HasClient, with_turn}
+use Rattle.version_room.specs.Known.{HasClient, with_turn, StaysHeld}
 use Rattle.version_room.specs.Seats.{Carries, IsOf, IsSame, head_of, known}
 use Rattle.version_room.specs.Steps.{Welcomes}
-use Rattle.version_room.specs.Turns.{AreOwn, Begins, Follows, HasLeft, Since, StaysHeld, Turned, begun_of, made_of, number_of}
+use Rattle.version_room.specs.Turns.{AreOwn, Begins, Follows, HasLeft, Since, Turned, begun_of, made_of, number_of}
 use Rattle.version_room.specs.Views.{after_turn, staged}
 use Rattle.version_room.proofs.EntryLemmas.{raises-append}
 use Rattle.version_room.proofs.ListLemmas.{rest_is}

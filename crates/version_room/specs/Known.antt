@@ -1,5 +1,5 @@
 -- What is known of one pass, and what each call makes of it.
-use Rattle.std.specs.Prelude.{ℕ, ◌≡◌, ◌≢◌, ◌+◌, ◌<◌, ◌≤◌, Bool, true, false, List, [], ◌++◌, length, drop, All, Option, Some, None, nat_le}
+use Rattle.std.specs.Prelude.{ℕ, ◌≡◌, ◌≢◌, ◌⊎◌, ◌+◌, ◌<◌, ◌≤◌, Bool, true, false, List, [], ◌++◌, length, drop, All, Option, Some, None, nat_le}
 use Rattle.hist_journal.specs.Meaning.{Meaning, is_in}
 use Rattle.version_room.specs.declared.view.Known.{Known}
 
@@ -51,6 +51,10 @@ module _ {E H : Type 0} where
   with_told k told = record k { seen = longer k.seen told }
 
 module _ {S D E H : Type 0} (m : Meaning S D E H) where
+  -- what was held the state x still holds, or it has lapsed
+  abbrev pub StaysHeld : S → H → Type 0
+  StaysHeld x h = (m.holding x ≡ Some h) ⊎ m.lapsed h (m.list x)
+
   -- the least client number may go to another pass
   pub record CanSpare (k : Known E H) : Type 0 where
     pub two : k.low + 1 < k.high

@@ -7,6 +7,7 @@ use Rattle.version_room.specs.declared.view.Begun.{Begun}
 use Rattle.version_room.specs.declared.view.Known.{Known}
 use Rattle.version_room.specs.declared.view.Stage.TheVariants.{Waiting, InTurn}
 use Rattle.version_room.specs.declared.view.View.{View}
+use Rattle.version_room.specs.Known.{StaysHeld}
 use Rattle.version_room.specs.Views.{after_learning, after_load, after_turn, staged}
 
 abbrev pub raised_once : {E H : Type 0} → Begun E H → Begun E H
@@ -21,7 +22,7 @@ module _ {S D E H : Type 0} (m : Meaning S D E H) where
     pub seen : IsPrefix k.seen (m.list x)
     pub last : k.last ≤ raises m (m.list x)
     pub mine : k.mine ≡ of_clients m k.low k.high (m.list x)
-    pub held : (h : H) → k.held ≡ Some h → (m.holding x ≡ Some h) ⊎ m.lapsed h (m.list x)
+    pub held : (h : H) → k.held ≡ Some h → StaysHeld m x h
 
   -- the seat has the state, and is in a turn
   pub record Enters (me now : Me (Option S) (View D E H)) : Type 0 where

@@ -10,7 +10,7 @@ use Rattle.version_room.specs.declared.view.Known.{Known}
 use Rattle.version_room.specs.declared.view.Stage.{Stage}
 use Rattle.version_room.specs.declared.view.Stage.TheVariants.{Outside, Waiting, InTurn}
 use Rattle.version_room.specs.declared.view.View.{View}
-use Rattle.version_room.specs.Known.{HasClient}
+use Rattle.version_room.specs.Known.{HasClient, StaysHeld}
 use Rattle.version_room.specs.Seats.{Carries, IsSame, known}
 use Rattle.version_room.specs.Steps.{Welcomes, raised_once}
 use Rattle.version_room.specs.Views.{after_turn, staged}
@@ -37,20 +37,17 @@ module _ {S D E H : Type 0} (m : Meaning S D E H) where
   abbrev pub Since : Seat (Option S) (View D E H) → S → ℕ → Seat (Option S) (View D E H) → Type 0
   Since before entry r now = Turned before now entry None r
 
-  -- the holding is as it was at entry, or has lapsed
-  abbrev pub StaysHeld : S → H → Type 0
-  StaysHeld x h = (m.holding x ≡ Some h) ⊎ m.lapsed h (m.list x)
-
   -- these are entries of the pass's own calls
   abbrev pub AreOwn : Known E H → List E → Type 0
   AreOwn k entries = All (λ e. HasClient k (m.client e)) entries
 
-  -- x may be left of a turn that found the state `entry` and raised r times
+  -- x may be left of a turn that found the state `entry` and raised r times: with the same head, and a list that goes on
+  -- by own entries alone, r of them raises; what the state held for a client of another pass it still holds
   pub record Follows (k : Known E H) (entry : S) (r : ℕ) (x : S) : Type 0 where
     pub head : m.head x ≡ m.head entry
     pub longer : IsPrefix (m.list entry) (m.list x)
     pub mine : AreOwn k (drop (length (m.list entry)) (m.list x))
-    pub others : (h : H) → m.holding entry ≡ Some h → HasClient k (m.holder h) ⊎ StaysHeld x h
+    pub others : (h : H) → m.holding entry ≡ Some h → HasClient k (m.holder h) ⊎ StaysHeld m x h
     pub raised : raises m (m.list x) ≡ raises m (m.list entry) + r
 
   pub record MayLeave (now : Seat (Option S) (View D E H)) (x : S) : Type 0 where

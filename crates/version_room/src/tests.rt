@@ -1,5 +1,5 @@
 //! Rooms of a journal, as callers use them: on one thread and on two.
-ghost use Rattle.std.specs.Prelude.{◌≡◌, ◌^◌, ◌<◌, ◌≤◌, [], IsTrue, length, vec_capacity, vec_len};
+ghost use Rattle.std.specs.Prelude.{◌≡◌, ◌+◌, ◌-◌, ◌^◌, ◌<◌, ◌≤◌, [], IsTrue, length, vec_capacity, vec_len};
 ghost use Rattle.hist_journal.specs.Journal.{KeepsHistory};
 ghost use Rattle.hist_journal.specs.ListedJournal.{journal_meaning};
 ghost use Rattle.version_room.specs.Known.{HasClient, HasClients, all_clients};
@@ -33,6 +33,18 @@ fn has_room(log: &mut Log) -> bool
     log.len() < 1 << 40 && log.reserve_past(1).is_ok()
 }
 
+/// Raises a word, and answers its number.
+fn raised<W: Word>(word: &mut W) -> u64
+    requires ready { W.ready (W.made word.old) }
+    requires low { W.number word.old < 2 ^ 64 - 1 }
+    ensures result { result ≡ W.number word.new }
+    ensures number { W.number word.new ≡ W.number word.old + 1 }
+    ensures made { W.made word.new ≡ W.made word.old }
+{
+    word.raise();
+    word.load()
+}
+
 /// Raises the version in a turn, and adds the Raise entry of this client. Not where there is no memory.
 fn raise_in_turn<R: Wait>(rt: &R, room: &Room<Log>, pass: &mut Pass<Log>, client: u32) -> bool
     requires room { IsOf journal_meaning room.now pass.old.seat }
@@ -52,7 +64,7 @@ fn raise_in_turn<R: Wait>(rt: &R, room: &Room<Log>, pass: &mut Pass<Log>, client
         turn.leave(log);
         return false;
     }
-    turn.raise();
+    raised(&mut turn);
     let entry = Entry {
         who,
         kind: Kind::Raise,

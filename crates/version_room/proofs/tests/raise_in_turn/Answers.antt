@@ -29,8 +29,8 @@ returns-then-not-is_open-clause-clients g c =
     let gone = rested journal_meaning _ _ _ _ _ c.has_room-is_open.new.log _ c.requires.room t.0 c.leave.ensures in
     rw (c.pass-1.given.1 (sym (e.pass ∙ c.enter-turn.ensures.pass))) (ap (λ k. k.low) gone.1, ap (λ k. k.high) gone.1)
 
-pub raise-requires-clause-low : goal.raise-requires-clause-low
-raise-requires-clause-low g c =
+pub raised-requires-clause-low : goal.raised-requires-clause-low
+raised-requires-clause-low g c =
     let e = c.take-log.ensures in
     let t = took journal_meaning _ _ _ _ c.enter-turn.ensures.begun e.state e.taken e.same in
     let log = c.take-log.result in
@@ -50,7 +50,7 @@ leave-requires-2 g c =
       before = _;
       entry = _;
       r = 1;
-      since = since_raised journal_meaning _ _ _ _ _ _ _ t.0 c.raise.ensures.made c.raise.ensures.number;
+      since = since_raised journal_meaning _ _ _ _ _ _ _ t.0 c.raised.ensures.made c.raised.ensures.number;
       follows = follows_one journal_meaning _ _ _ _ _ (λ i. record { base = (push.base ∙ same.base) i; bounds = (push.bounds ∙ same.bounds) i }) same.list push.list c.requires.client (λ h x. absurd (cc x));
     }
 
@@ -58,8 +58,8 @@ pub returns-clause-room : goal.returns-clause-room
 returns-clause-room g c =
     let e = c.take-log.ensures in
     let t = took journal_meaning _ _ _ _ c.enter-turn.ensures.begun e.state e.taken e.same in
-    let made = c.raise.ensures.made in
-    let since = since_raised journal_meaning _ _ _ _ _ _ _ t.0 made c.raise.ensures.number in
+    let made = c.raised.ensures.made in
+    let since = since_raised journal_meaning _ _ _ _ _ _ _ t.0 made c.raised.ensures.number in
     let gone = rested journal_meaning _ _ _ _ _ c.push.new.self _ c.requires.room since c.leave-2.ensures in
     rw (c.pass-2-1.given.1 (sym (ap (λ w. w.pass) made ∙ (e.pass ∙ c.enter-turn.ensures.pass)))) gone.0
 
@@ -67,7 +67,7 @@ pub returns-clause-clients : goal.returns-clause-clients
 returns-clause-clients g c =
     let e = c.take-log.ensures in
     let t = took journal_meaning _ _ _ _ c.enter-turn.ensures.begun e.state e.taken e.same in
-    let made = c.raise.ensures.made in
-    let since = since_raised journal_meaning _ _ _ _ _ _ _ t.0 made c.raise.ensures.number in
+    let made = c.raised.ensures.made in
+    let since = since_raised journal_meaning _ _ _ _ _ _ _ t.0 made c.raised.ensures.number in
     let gone = rested journal_meaning _ _ _ _ _ c.push.new.self _ c.requires.room since c.leave-2.ensures in
     rw (c.pass-2-1.given.1 (sym (ap (λ w. w.pass) made ∙ (e.pass ∙ c.enter-turn.ensures.pass)))) (ap (λ k. k.low) gone.1, ap (λ k. k.high) gone.1)
