@@ -1,5 +1,5 @@
 -- The steps as the functions call them, and what they learn.
-use Rattle.std.proofs.Common.{◌≡◌, ◌≢◌, ◌⊎◌, ℕ, ◌+◌, ◌%◌, ◌^◌, eqb, eq-eqb, ne_eqb, Bool, List, [], ◌∷◌, ◌++◌, All, length, drop, refl, sym, ap, ◌∙◌, subst, arith, Some, None, Option}
+use Rattle.std.proofs.Common.{◌≡◌, ◌≢◌, ℕ, ◌+◌, ◌%◌, ◌^◌, eqb, eq-eqb, ne_eqb, Bool, List, [], ◌∷◌, ◌++◌, All, length, drop, refl, sym, ap, ◌∙◌, subst, arith, Some, Option}
 use mathlib.Core.Option as maybe
 use mathlib.Core.Option.{some, some-injective}
 use mathlib.Core.List.{IsPrefix}
@@ -15,11 +15,11 @@ use Rattle.version_room.specs.declared.view.Known.{Known}
 use Rattle.version_room.specs.declared.view.Stage.TheVariants.{Outside, Waiting, InTurn}
 use Rattle.version_room.specs.declared.view.View.{View}
 use Rattle.version_room.specs.Closing.{EndsWell, HaveAllClients}
-use Rattle.version_room.specs.Known.{HasClient, HasSomeClient, StaysHeld}
+use Rattle.version_room.specs.Known.{HasClient, HasSomeClient}
 use Rattle.version_room.specs.Rule.{Keeps}
-use Rattle.version_room.specs.Seats.{Carries, IsOf, IsSame}
+use Rattle.version_room.specs.Seats.{IsOf, IsSame}
 use Rattle.version_room.specs.Steps.{Enters, ends, looks}
-use Rattle.version_room.specs.Turns.{Begins, Follows, HasLeft, MayLeave, Since}
+use Rattle.version_room.specs.Turns.{Begins, HasLeft, MayLeave, Since}
 use Rattle.version_room.specs.Views.{after_turn, first_view, staged}
 use Rattle.version_room.proofs.Ending.{MayFollow, ends_keeps}
 use Rattle.version_room.proofs.Looking.{looks_keeps}

@@ -1,6 +1,5 @@
 -- For callers: which passes have all client numbers.
 use Rattle.std.proofs.Common.{◌≡◌, ◌⊎◌, ℕ, zero, suc, ◌+◌, ◌<◌, ◌≤◌, leb, leb-true, leb-false, Bool, true, false, List, [], ◌∷◌, ◌++◌, Any, length, refl, inl, inr, arith}
-use Rattle.std.specs.Prelude.{slice_index_or}
 use Rattle.version_room.specs.declared.view.Known.{Known}
 use Rattle.version_room.specs.Closing.{HaveAllClients, HaveClientsFrom}
 use Rattle.version_room.specs.Known.{HasClient, all_clients}

@@ -8,7 +8,6 @@ use prog.Atomic.{either}
 use Rattle.std.specs.Bool.{MatchBool}
 use Rattle.atomic_table.specs.Table.{Act, Me, step, keeps, Allows, Valid, homes_after, carried_after}
 use Rattle.hist_journal.specs.Meaning.{Meaning}
-use Rattle.version_room.specs.declared.view.Begun.{Begun}
 use Rattle.version_room.specs.declared.view.Stage.{Stage}
 use Rattle.version_room.specs.declared.view.Stage.TheVariants.{Outside, Waiting, InTurn}
 use Rattle.version_room.specs.declared.view.View.{View}

@@ -13,7 +13,7 @@ use Rattle.version_room.specs.declared.view.Stage.{Stage}
 use Rattle.version_room.specs.declared.view.Stage.TheVariants.{Outside, Waiting, InTurn}
 use Rattle.version_room.specs.declared.view.View.{View}
 use Rattle.version_room.specs.Known.{HasClient, held_if, own_holding, StaysHeld}
-use Rattle.version_room.specs.Rule.{Moment, Stands, HasTurn, Fits, IsTrueOf, IsTrueAt, Keeps}
+use Rattle.version_room.specs.Rule.{Moment, Stands, HasTurn, Fits, IsTrueAt, Keeps}
 use Rattle.version_room.specs.Steps.{ends}
 use Rattle.version_room.specs.Views.{after_turn}
 use Rattle.version_room.proofs.EntryLemmas.{within, of_clients-append, of_clients-all, of_clients-none}

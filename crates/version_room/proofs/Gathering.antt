@@ -1,5 +1,5 @@
 -- Passes that are taken one by one from the end of a list.
-use Rattle.std.proofs.Common.{◌≡◌, List, [], ◌∷◌, ◌++◌, map, refl, sym, ap, ◌∙◌, append_assoc}
+use Rattle.std.proofs.Common.{◌≡◌, List, [], ◌∷◌, ◌++◌, sym, ap, ◌∙◌, append_assoc}
 use Rattle.std.proofs.lemmas.List.{map-append}
 use Rattle.hist_journal.specs.declared.listed.Listed.{Ghosts}
 use Rattle.version_room.specs.declared.pass.Pass.{Pass}

@@ -1,21 +1,19 @@
 -- Giving a note to a pass, and a pass to the one that closes the room, keep the rule.
-use Rattle.std.proofs.Common.{◌≡◌, ◌≢◌, ◌⊎◌, ℕ, ◌≤◌, ◌<◌, List, [], ◌∷◌, All, set, refl, sym, ap, ◌∙◌, subst, ⊎_elim, inl, inr, Some, None, Option}
+use Rattle.std.proofs.Common.{◌≡◌, ◌≢◌, ◌⊎◌, ℕ, List, [], set, sym, ◌∙◌, subst, ⊎_elim, inl, inr, None}
 use Rattle.std.proofs.lemmas.List.Elements.{All-cons}
 use mathlib.Core.Option.{some}
-use mathlib.Core.Option as maybe
 use lib.ListN.{get_elem?}
-use Rattle.atomic_table.specs.Table.{State, Joins}
+use Rattle.atomic_table.specs.Table.{Joins}
 use Rattle.atomic_table.proofs.Lists.{at_set, set_else}
 use Rattle.hist_journal.specs.Meaning.{Meaning}
 use Rattle.version_room.specs.declared.view.Known.{Known}
 use Rattle.version_room.specs.declared.view.Stage.TheVariants.{Outside}
 use Rattle.version_room.specs.declared.view.View.{View}
-use Rattle.version_room.specs.Known.{HasClient}
 use Rattle.version_room.specs.Rule.{Moment, Fits, IsTrueAt, IsHome, IsOut, Keeps}
 use Rattle.version_room.specs.Views.{gathers, given_up, hears_of}
 use Rattle.version_room.proofs.Changed.{cover, cover_in, cover_out}
 use Rattle.version_room.proofs.ListLemmas.{prefix_none}
-use Rattle.version_room.proofs.RuleLemmas.{Plain, words_of, plain_of, as_in, rule_of, others, state_stays, idle_apart, moves}
+use Rattle.version_room.proofs.RuleLemmas.{plain_of, as_in, rule_of, others, state_stays, idle_apart, moves}
 use Rattle.version_room.proofs.Sharing.{note_fits, recount, recount_all, fits_recounted, stands_recounted}
 
 module _ {S D E H : Type 0} (m : Meaning S D E H) (head : D) where

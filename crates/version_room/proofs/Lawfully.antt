@@ -1,11 +1,10 @@
 -- What the types of passes and notes keep, from one view to the next.
-use Rattle.std.proofs.Common.{◌≡◌, ℕ, ◌+◌, ◌≤◌, List, [], Option, Some, refl, sym, ap, ◌∙◌, subst, Bool, true, false, leb, length}
+use Rattle.std.proofs.Common.{◌≡◌, ℕ, List, [], Option, Some, sym, ap, ◌∙◌, subst, Bool, true, false, leb, length}
 use Rattle.std.proofs.lemmas.Grind.{merely}
 use Rattle.std.specs.Bool.{MatchBool}
 use Rattle.atomic_table.specs.Table.{Me}
 use Rattle.atomic_table.specs.declared.shared.Seat.{Seat}
 use Rattle.hist_journal.specs.Meaning.{Meaning}
-use Rattle.version_room.specs.declared.view.Known.{Known}
 use Rattle.version_room.specs.declared.view.Stage.{Stage}
 use Rattle.version_room.specs.declared.view.View.{View}
 use Rattle.version_room.specs.Known.{HasSomeClient, longer_if}

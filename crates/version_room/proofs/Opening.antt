@@ -1,5 +1,5 @@
 -- A new room meets the rule, and what it says of a room that is closed by a seat with all client numbers.
-use Rattle.std.proofs.Common.{◌≡◌, ◌⊎◌, ℕ, zero, suc, ◌+◌, ◌<◌, ◌≤◌, le_refl, false, List, [], ◌∷◌, All, refl, sym, ap, ◌∙◌, subst, ⊎_elim, inl, arith, Some, None, Option}
+use Rattle.std.proofs.Common.{◌≡◌, ℕ, zero, suc, ◌+◌, ◌<◌, ◌≤◌, le_refl, false, List, [], ◌∷◌, All, refl, sym, ap, ◌∙◌, subst, ⊎_elim, inl, arith, Some, Option}
 use Rattle.std.proofs.lemmas.List.Elements.{All-weaker, All-nil, All-contains}
 use mathlib.Core.Option.{some, some-injective, some-ne-none}
 use mathlib.Core.Option as maybe

@@ -7,7 +7,7 @@ use Rattle.hist_journal.specs.Meaning.{Meaning, raises}
 use Rattle.version_room.specs.declared.view.Stage.TheVariants.{Outside}
 use Rattle.version_room.specs.declared.view.View.{View}
 use Rattle.version_room.specs.Known.{longer, longer_if}
-use Rattle.version_room.specs.Rule.{Moment, Fits, Keeps}
+use Rattle.version_room.specs.Rule.{Fits, Keeps}
 use Rattle.version_room.specs.Steps.{loads, learns}
 use Rattle.version_room.specs.Views.{after_load, after_learning}
 use Rattle.version_room.proofs.EntryLemmas.{raises-prefix}

@@ -1,5 +1,5 @@
 -- Loading and raising the version in a turn keep the rule.
-use Rattle.std.proofs.Common.{◌≡◌, ◌≢◌, ℕ, ◌+◌, ◌%◌, ◌^◌, ◌<◌, ◌≤◌, true, List, [], ◌∷◌, All, set, refl, sym, ap, ap₂, ◌∙◌, subst, inr, arith, mod-eq_of_lt, Option}
+use Rattle.std.proofs.Common.{◌≡◌, ◌≢◌, ℕ, ◌+◌, ◌%◌, ◌^◌, ◌<◌, ◌≤◌, List, [], ◌∷◌, All, set, refl, sym, ap, ap₂, ◌∙◌, subst, inr, arith, mod-eq_of_lt, Option}
 use Rattle.std.proofs.lemmas.List.Elements.{All-weaker}
 use mathlib.Core.Option.{some}
 use mathlib.Core.Option as maybe

@@ -1,5 +1,5 @@
 -- The rule with its words and its slot spelled out, and what a step leaves alone.
-use Rattle.std.proofs.Common.{◌≡◌, ◌≢◌, ◌⊎◌, ℕ, ◌+◌, ◌<◌, ◌≤◌, Bool, true, false, List, [], ◌∷◌, ◌++◌, length, set, refl, sym, ap, ◌∙◌, subst, ⊎_elim, inl, inr, true≢false, Some, None, Option}
+use Rattle.std.proofs.Common.{◌≡◌, ◌≢◌, ◌⊎◌, ℕ, ◌+◌, ◌<◌, ◌≤◌, true, List, [], ◌∷◌, ◌++◌, length, set, refl, sym, ap, ◌∙◌, subst, ⊎_elim, inl, inr, true≢false, Option}
 use mathlib.Core.Option.{some, some-injective}
 use mathlib.Core.Option as maybe
 use lib.ListN.{get_elem?}
@@ -9,7 +9,7 @@ use Rattle.atomic_table.proofs.Lists.{at_set, at_longer, set_again, set_else}
 use Rattle.hist_journal.specs.Meaning.{Meaning, raises}
 use Rattle.version_room.specs.declared.view.Begun.{Begun}
 use Rattle.version_room.specs.declared.view.Stage.{Stage}
-use Rattle.version_room.specs.declared.view.Stage.TheVariants.{Outside, Waiting, InTurn}
+use Rattle.version_room.specs.declared.view.Stage.TheVariants.{Outside, InTurn}
 use Rattle.version_room.specs.declared.view.View.{View}
 use Rattle.version_room.specs.Rule.{Moment, Stands, HasTurn, Fits, IsHome, IsOut, Keeps}
 use Rattle.version_room.proofs.ListLemmas.{at_end}

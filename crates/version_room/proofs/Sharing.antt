@@ -1,22 +1,20 @@
 -- Making a note, and giving a client number to a new pass, keep the rule.
-use Rattle.std.proofs.Common.{◌≡◌, ◌≢◌, ℕ, ◌+◌, ◌<◌, ◌≤◌, le_refl, List, [], ◌∷◌, ◌++◌, All, length, set, length-set, refl, sym, ap, ◌∙◌, subst, arith, Some, None, Option}
+use Rattle.std.proofs.Common.{◌≡◌, ◌≢◌, ℕ, ◌+◌, ◌<◌, ◌≤◌, le_refl, List, [], ◌∷◌, ◌++◌, All, length, set, sym, ap, ◌∙◌, subst, arith, Some, Option}
 use Rattle.std.proofs.lemmas.List.Elements.{All-weaker, All-nil, All-same}
-use mathlib.Core.Option.{some}
 use mathlib.Core.List.{IsPrefix}
-use lib.ListN.{get_elem?}
-use Rattle.atomic_table.specs.Table.{State, Splits}
+use Rattle.atomic_table.specs.Table.{Splits}
 use Rattle.atomic_table.proofs.Lists.{set_again}
 use Rattle.hist_journal.specs.Meaning.{Meaning, of_clients}
 use Rattle.version_room.specs.declared.view.Known.{Known}
 use Rattle.version_room.specs.declared.view.Stage.{Stage}
 use Rattle.version_room.specs.declared.view.Stage.TheVariants.{Outside, Waiting, InTurn}
 use Rattle.version_room.specs.declared.view.View.{View}
-use Rattle.version_room.specs.Known.{CanSpare, HasClient, begins_with}
+use Rattle.version_room.specs.Known.{CanSpare, begins_with}
 use Rattle.version_room.specs.Rule.{Moment, Stands, Fits, IsTrueAt, Keeps}
 use Rattle.version_room.specs.Views.{fresh_view, keeps_the_rest, note_view, takes_the_least}
 use Rattle.version_room.proofs.Changed.{put, put_here, put_else}
 use Rattle.version_room.proofs.EntryLemmas.{of_clients-none, of_clients-without, of_clients-least}
-use Rattle.version_room.proofs.ListLemmas.{at_near, prefix_none}
+use Rattle.version_room.proofs.ListLemmas.{prefix_none}
 use Rattle.version_room.proofs.RuleLemmas.{Plain, words_of, plain_of, as_in, others, state_stays, idle_apart, more}
 
 no_number : (n : ℕ) → (0 ≤ n) × (n < 0) → ⊥

@@ -1,6 +1,7 @@
 -- For callers: from the entry into a turn to its end.
-use Rattle.std.proofs.Common.{◌≡◌, ◌⊎◌, ℕ, ◌+◌, ◌<◌, ◌≤◌, List, [], ◌∷◌, ◌++◌, All, length, drop, refl, sym, ap, ◌∙◌, subst, inl, inr, arith, append-nil, Some, None, IsSome, Option}
+use Rattle.std.proofs.Common.{◌≡◌, ◌⊎◌, ℕ, ◌+◌, List, [], ◌∷◌, ◌++◌, refl, sym, ap, ◌∙◌, subst, inl, inr, arith, append-nil, Some, None, IsSome, Option}
 use Rattle.std.proofs.lemmas.List.Elements.{All-nil, All-cons}
+use mathlib.Core.List.{IsPrefix}
 use mathlib.Core.Path.{Path}
 use Rattle.atomic_table.specs.Table.{Me}
 use Rattle.atomic_table.specs.declared.shared.Seat.{Seat}
@@ -15,10 +16,10 @@ use Rattle.version_room.specs.declared.view.View.{View}
 use Rattle.version_room.specs.Known.{HasClient, with_turn, StaysHeld}
 use Rattle.version_room.specs.Seats.{Carries, IsOf, IsSame, head_of, known}
 use Rattle.version_room.specs.Steps.{Welcomes}
-use Rattle.version_room.specs.Turns.{AreOwn, Begins, Follows, HasLeft, Since, Turned, begun_of, made_of, number_of}
-use Rattle.version_room.specs.Views.{after_turn, staged}
+use Rattle.version_room.specs.Turns.{AreOwn, Begins, Follows, HasLeft, Since, begun_of, made_of, number_of}
+use Rattle.version_room.specs.Views.{staged}
 use Rattle.version_room.proofs.EntryLemmas.{raises-append}
-use Rattle.version_room.proofs.ListLemmas.{rest_is}
+use Rattle.version_room.proofs.ListLemmas.{prefix_trans, rest_is}
 
 module _ {S D E H : Type 0} (m : Meaning S D E H) where
   abbrev V : Type 0
@@ -147,3 +148,7 @@ module _ {S D E H : Type 0} (m : Meaning S D E H) where
   -- what such a turn adds to the pass
   pub mine_more : (k : Known E H) (x y : S) (new : List E) → m.list y ≡ m.list x ++ new → (with_turn m k (m.list x) y).mine ≡ k.mine ++ new
   mine_more k x y new lists = ap (λ (l : List E). k.mine ++ l) (rest_is (m.list x) (m.list y) (new, sym lists))
+
+  -- it has then seen all that it had seen
+  pub seen_more : (k : Known E H) (x y : S) (r : ℕ) → Welcomes m x k → Follows m k x r y → IsPrefix k.seen (with_turn m k (m.list x) y).seen
+  seen_more k x y r welcomes follows = prefix_trans k.seen (m.list x) (m.list y) welcomes.seen follows.longer

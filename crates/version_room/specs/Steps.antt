@@ -1,5 +1,5 @@
 -- What each step on the table tells its caller.
-use Rattle.std.specs.Prelude.{◌≡◌, ◌⊎◌, ℕ, ◌+◌, ◌≤◌, ◌==◌, List, [], ◌∷◌, Option, Some, MatchBool}
+use Rattle.std.specs.Prelude.{◌≡◌, ℕ, ◌+◌, ◌≤◌, ◌==◌, [], ◌∷◌, Option, Some, MatchBool}
 use mathlib.Core.List.{IsPrefix}
 use Rattle.atomic_table.specs.Table.{Me, Step}
 use Rattle.hist_journal.specs.Meaning.{Meaning, raises, of_clients}
@@ -14,6 +14,10 @@ abbrev pub raised_once : {E H : Type 0} → Begun E H → Begun E H
 raised_once b = record b { raised = b.raised + 1 }
 
 module _ {S D E H : Type 0} (m : Meaning S D E H) where
+  -- the version in a turn: the raises of the list at entry and the turn's own
+  abbrev pub version_of : Begun E H → ℕ
+  version_of b = raises m b.list + b.raised
+
   abbrev pub begun_at : ℕ → S → Begun E H
   begun_at ticket x = record { ticket = ticket; list = m.list x; holding = m.holding x; raised = 0 }
 
@@ -43,7 +47,7 @@ module _ {S D E H : Type 0} (m : Meaning S D E H) where
   looks step me n now = (ticket : ℕ) → me.0.stage ≡ Waiting ticket → MatchBool (n == ticket) (Enters me now) (now ≡ me)
 
   abbrev pub hears : Tells
-  hears step me n now = (now ≡ me) × ((b : Begun E H) → me.0.stage ≡ InTurn b → n ≡ raises m b.list + b.raised)
+  hears step me n now = (now ≡ me) × ((b : Begun E H) → me.0.stage ≡ InTurn b → n ≡ version_of b)
 
   abbrev pub lifts : Tells
   lifts step me n now = (b : Begun E H) → me.0.stage ≡ InTurn b → now ≡ (staged me.0 (InTurn (raised_once b)), me.1)

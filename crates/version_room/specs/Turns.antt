@@ -1,5 +1,5 @@
 -- What a clause says of a turn.
-use Rattle.std.specs.Prelude.{◌≡◌, ◌⊎◌, ℕ, ◌+◌, ◌<◌, ◌≤◌, List, [], ◌∷◌, length, drop, All, Option, Some, None}
+use Rattle.std.specs.Prelude.{◌≡◌, ◌⊎◌, ℕ, ◌+◌, ◌<◌, List, [], ◌∷◌, length, drop, All, Option, Some, None}
 use mathlib.Core.List.{IsPrefix}
 use Rattle.atomic_table.specs.Table.{Me}
 use Rattle.atomic_table.specs.declared.shared.Seat.{Seat}
@@ -11,8 +11,8 @@ use Rattle.version_room.specs.declared.view.Stage.{Stage}
 use Rattle.version_room.specs.declared.view.Stage.TheVariants.{Outside, Waiting, InTurn}
 use Rattle.version_room.specs.declared.view.View.{View}
 use Rattle.version_room.specs.Known.{HasClient, StaysHeld}
-use Rattle.version_room.specs.Seats.{Carries, IsSame, known}
-use Rattle.version_room.specs.Steps.{Welcomes, raised_once}
+use Rattle.version_room.specs.Seats.{IsSame, known}
+use Rattle.version_room.specs.Steps.{Welcomes, raised_once, version_of}
 use Rattle.version_room.specs.Views.{after_turn, staged}
 
 module _ {S D E H : Type 0} (m : Meaning S D E H) where
@@ -63,17 +63,17 @@ module _ {S D E H : Type 0} (m : Meaning S D E H) where
       (before : Seat (Option S) (View D E H)) (entry : S) (r : ℕ) → Since before entry r now
       → IsSame before gone × (gone.me ≡ (after_turn m before.me.0 (m.list entry) x, []))
 
-  -- the version in a turn
+  -- the version in a turn, as the number of a word
   abbrev pub number_of : Stage E H → ℕ
   number_of Outside = 0
   number_of (Waiting ticket) = 0
-  number_of (InTurn b) = raises m b.list + b.raised
+  number_of (InTurn b) = version_of m b
 
   abbrev pub IsNumber : Stage E H → ℕ → Type 0
-  IsNumber stage n = (b : Begun E H) → stage ≡ InTurn b → n ≡ raises m b.list + b.raised
+  IsNumber stage n = (b : Begun E H) → stage ≡ InTurn b → n ≡ version_of m b
 
   abbrev pub CanRaise : Stage E H → Type 0
-  CanRaise stage = (b : Begun E H) × (stage ≡ InTurn b) × (raises m b.list + b.raised < 18446744073709551615)
+  CanRaise stage = (b : Begun E H) × (stage ≡ InTurn b) × (version_of m b < 18446744073709551615)
 
 -- the turn as it began
 module _ {E H : Type 0} where

@@ -1,4 +1,4 @@
-use Rattle.std.proofs.Common.{rules, ◌≡◌, ◌++◌, ◌∷◌, [], sym, ap, ◌∙◌, subst, refl}
+use Rattle.std.proofs.Common.{◌++◌, ◌∷◌, [], sym, ap, ◌∙◌, subst}
 use Rattle.version_room.specs.Closing.{HaveAllClients, all_known}
 use Rattle.version_room.specs.Seats.{known}
 use Rattle.version_room.proofs.ClosingLemmas.{all_in_order}

@@ -1,8 +1,6 @@
-use Rattle.std.proofs.Common.{rules, ◌≡◌, ℕ, ◌+◌, ◌≤◌, ◌<◌, ◌∷◌, ◌++◌, [], length, refl, sym, ap, ◌∙◌, subst, arith}
-use Rattle.std.proofs.lemmas.List.Elements.{All-cons, All-nil}
+use Rattle.std.proofs.Common.{◌≡◌, ◌+◌, ◌≤◌, ◌<◌, length, refl, sym, ap, ◌∙◌, subst, arith}
 use Rattle.hist_journal.specs.ListedJournal.{journal_meaning}
 use Rattle.hist_journal.specs.Meaning.{raises}
-use Rattle.version_room.specs.Known.{HasClient}
 use Rattle.version_room.specs.Turns.{number_of}
 use Rattle.version_room.proofs.EntryLemmas.{raises-le-length}
 use Rattle.version_room.proofs.TurnLemmas.{took, since_raised, number_since, follows_one, follows_unchanged, rested}

@@ -1,4 +1,3 @@
-use Rattle.std.proofs.Common.{◌≡◌}
 use Rattle.hist_journal.specs.ListedJournal.{journal_meaning}
 use Rattle.version_room.specs.Known.{HasClients}
 use Rattle.version_room.specs.Seats.{IsOf, known}

@@ -1,4 +1,4 @@
-use Rattle.std.proofs.Common.{rules, ◌∙◌}
+use Rattle.std.proofs.Common.{◌∙◌}
 use Rattle.version_room.proofs.Calls.{begins}
 use Rattle.version_room.proofs.room.Room.enter.Goals as goal
 

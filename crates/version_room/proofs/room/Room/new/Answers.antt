@@ -1,4 +1,3 @@
-use Rattle.std.proofs.Common.{rules}
 use Rattle.version_room.proofs.Calls.{opens_as}
 use Rattle.version_room.proofs.Lawfully.{first_lawful}
 use Rattle.version_room.proofs.room.Room.new.Goals as goal

@@ -1,4 +1,4 @@
-use Rattle.std.proofs.Common.{rules, arith, ap}
+use Rattle.std.proofs.Common.{rules, ap}
 use Rattle.version_room.proofs.Sharing.{shares_keeps}
 use Rattle.version_room.proofs.Lawfully.{still_lawful}
 use Rattle.version_room.proofs.room.Room.new_pass.Goals as goal
