@@ -2,12 +2,15 @@
 //! that took. It stands on the crates whose work it does. `bench/run` builds and runs it.
 #![tactic(auto)]
 
+mod room;
+
 use anyhow::{Context, Result, bail};
 use byte_io::{MemSink, NeverFails};
 use folder_disk::{MainRead, MemFolder};
 use prefs_model::PrefMap;
 use prefs_proto::PrefsCodec;
 use prefs_tool::{Status, run_tool};
+use room::RoomWork;
 use std::alloc::Global;
 use std::hint::black_box;
 use std::time::Instant;
@@ -64,23 +67,32 @@ fn shown(alloc: Global, bytes: &[u8]) -> Result<u64> {
 }
 
 /// `ds_bench WORK FILE TIMES` prints the work, the file's bytes, the times and the nanoseconds in all.
-/// Without words it does nothing.
+/// `ds_bench turn THREADS TIMES` and `ds_bench load THREADS TIMES` print the work, the threads, the times on each
+/// thread and the nanoseconds in all. Without words it does nothing.
 fn main(rt: HostRuntime) -> Result<()> {
     let mut words = env::args(&rt)?;
     let _program = words.next();
     let Some(name) = words.next() else {
         return Ok(());
     };
-    let Some(work) = Work::named(name.as_str()) else {
-        bail!("no such work");
-    };
-    let path = words.next().context("which file?")?;
+    let place = words.next().context("which file, or how many threads?")?;
     let times = words
         .next()
         .context("how often?")?
         .parse::<u32>()
         .context("how often?")?;
-    let bytes = fs::read(&rt, path.as_str())?;
+    if let Some(work) = RoomWork::named(name.as_str()) {
+        let threads = place.parse::<u32>().context("how many threads?")?;
+        let start = Instant::now(&rt)?;
+        room::run(&rt, rt.alloc(), work, threads, times)?;
+        let nanoseconds = start.elapsed(&rt)?.as_nanos();
+        println!(rt; "{name} {threads} {times} {nanoseconds}")?;
+        return Ok(());
+    }
+    let Some(work) = Work::named(name.as_str()) else {
+        bail!("no such work");
+    };
+    let bytes = fs::read(&rt, place.as_str())?;
     let nanoseconds = timed(&rt, work, &bytes, times)?;
     let len = bytes.len();
     println!(rt; "{name} {len} {times} {nanoseconds}")?;

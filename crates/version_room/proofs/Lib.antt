@@ -1,0 +1,17 @@
+pub mod Calls
+pub mod Changed
+pub mod ClosingLemmas
+pub mod Drawing
+pub mod Ending
+pub mod EntryLemmas
+pub mod Gathering
+pub mod Joining
+pub mod Lawfully
+pub mod ListLemmas
+pub mod Looking
+pub mod Opening
+pub mod Outside
+pub mod Raising
+pub mod RuleLemmas
+pub mod Sharing
+pub mod TurnLemmas
