@@ -5,4 +5,5 @@ pub mod KindNames
 pub mod JsonBack
 pub mod InLine
 pub mod Back
+pub mod CallerNames
 pub mod OneValue
