@@ -36,6 +36,7 @@ pub use laws::{one_value, texts_read_back};
 pub use maps::{map_text, push_map, push_pair};
 pub use name_list::NameList;
 pub use names::Names;
+pub use numbers::push_numbered;
 pub use read::parse_value;
 pub use scalars::plain_value;
 pub use seen::{AnswerLineSeen, AnswerSeen};

@@ -12,7 +12,7 @@ pub(crate) fn push_number(out: &mut String, number: u64) -> Result<(), AllocErro
 }
 
 /// Appends the word, a space, and the number.
-pub(crate) fn push_numbered(out: &mut String, word: &str, number: u64) -> Result<(), AllocError>
+pub fn push_numbered(out: &mut String, word: &str, number: u64) -> Result<(), AllocError>
     ensures { OnOk result (string_bytes out.new ≡ string_bytes out.old ++ numbered word.now number) }
 {
     out.push_str(word)?;

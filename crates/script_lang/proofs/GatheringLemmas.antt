@@ -1,17 +1,17 @@
 -- Texts that are gathered and written one after the other.
-use Rattle.std.proofs.Common.{◌≡◌, ◌∙◌, ◌+◌, ◌≤◌, ◌<◌, ℕ, List, [], ◌++◌, Bool, Result, Ok, Err, length, take, inl, inr, sym, ap, append_assoc, append-nil, arith}
+use Rattle.std.proofs.Common.{◌≡◌, ◌∙◌, ◌+◌, ◌≤◌, ℕ, List, [], ◌++◌, Bool, true, false, Result, Ok, Err, length, take, inl, inr, sym, ap, subst, append_assoc, append-nil, arith}
 use Rattle.std.proofs.Math.Seq.{take-append_seam, take-append-add}
 use Rattle.std.proofs.lemmas.List.{take-append-le, take_all}
 use Rattle.std.proofs.lemmas.Bool.{cases_lt}
+use Rattle.std.specs.Result.{OnOk}
+use Rattle.byte_io.specs.Sink.{WritesAll}
 use Rattle.store_traits.specs.Faults.{Counts}
 use Rattle.store_traits.proofs.FaultLemmas.{rose_since}
-use Rattle.std.specs.Bool.{OnTrue}
-use Rattle.byte_io.specs.Sink.{WritesAll}
-use Rattle.script_lang.specs.Gathering.{PassesOn, Gathers}
+use Rattle.script_lang.specs.Gathering.{PassesOn, GainsFront, Gathers}
 
 -- nothing is taken of a text
-pub stops_at_once : {T E : Type 0} (held text : List ℕ) (e : E) → WritesAll {T = T} held text (Err e) held
-stops_at_once held text e = (0, sym (append-nil held))
+pub stops_at_once : (text held : List ℕ) → GainsFront text held held
+stops_at_once text held = (0, sym (append-nil held))
 
 -- a front of a text is one of a longer text
 pub front_of_longer : (text more : List ℕ) (n : ℕ) → (m : ℕ) × (take m (text ++ more) ≡ take n text)
@@ -30,7 +30,7 @@ pub passes_both : (first second held gathered middle_held middle_gathered new_he
 passes_both first second held gathered middle_held middle_gathered new_held new_gathered one two = record {
   written = one.written ++ two.written;
   parts = sym (append_assoc gathered first second) ∙ ap (λ (t : List ℕ). t ++ second) one.parts ∙ append_assoc one.written middle_gathered second
-    ∙ ap (λ (t : List ℕ). one.written ++ t) two.parts ∙ sym (append_assoc one.written two.written new_gathered);
+      ∙ ap (λ (t : List ℕ). one.written ++ t) two.parts ∙ sym (append_assoc one.written two.written new_gathered);
   gained = two.gained ∙ ap (λ (t : List ℕ). t ++ two.written) one.gained ∙ append_assoc held one.written two.written;
 }
 
@@ -42,16 +42,16 @@ gathers_behind first second held gathered middle_held middle_gathered new_held n
     passes_both first second held gathered middle_held middle_gathered new_held new_gathered one two
 gathers_behind first second held gathered middle_held middle_gathered new_held new_gathered (Err e) one two =
     let whole : gathered ++ (first ++ second) ≡ one.written ++ (middle_gathered ++ second) =
-    sym (append_assoc gathered first second) ∙ ap (λ (t : List ℕ). t ++ second) one.parts ∙ append_assoc one.written middle_gathered second in
-    (length one.written + two.0,
+    sym (append_assoc gathered first second) ∙ ap (λ (t : List ℕ). t ++ second) one.parts ∙ append_assoc one.written middle_gathered second in (
+      length one.written + two.0,
       two.1 ∙ ap (λ (t : List ℕ). t ++ take two.0 (middle_gathered ++ second)) one.gained ∙ append_assoc held one.written (take two.0 (middle_gathered ++ second))
-      ∙ ap (λ (t : List ℕ). held ++ t) (sym (take-append-add one.written (middle_gathered ++ second) two.0))
-      ∙ ap (λ (t : List ℕ). held ++ take (length one.written + two.0) t) (sym whole))
+          ∙ ap (λ (t : List ℕ). held ++ t) (sym (take-append-add one.written (middle_gathered ++ second) two.0))
+          ∙ ap (λ (t : List ℕ). held ++ take (length one.written + two.0) t) (sym whole),
+    )
 
 -- a text that stopped stops what was to follow it
-pub stops_inside : {T E : Type 0} (first second held gathered new_held : List ℕ) (e : E)
-    → WritesAll {T = T} held (gathered ++ first) (Err e) new_held → WritesAll {T = T} held (gathered ++ (first ++ second)) (Err e) new_held
-stops_inside first second held gathered new_held e stop =
+pub stops_inside : (first second held gathered new_held : List ℕ) → GainsFront (gathered ++ first) held new_held → GainsFront (gathered ++ (first ++ second)) held new_held
+stops_inside first second held gathered new_held stop =
     let front = front_of_longer (gathered ++ first) second stop.0 in
     (front.0, stop.1 ∙ ap (λ (t : List ℕ). held ++ t) (sym front.1) ∙ ap (λ (t : List ℕ). held ++ take front.0 t) (append_assoc gathered first second))
 
@@ -65,4 +65,26 @@ gathers_pushed text held gathered pushed new_held new_gathered (Err e) is stop =
 
 -- a count since an earlier moment
 pub counts_since : (has_failed : Bool) (before since now : ℕ) → before ≤ since → Counts has_failed since now → Counts has_failed before now
-counts_since has_failed before since now later counts = record { later = omega (arith, counts.later); cause = ? }
+counts_since true before since now later counts = record { later = omega (arith, counts.later); cause = rose_since before since now later counts.cause }
+counts_since false before since now later counts = record { later = omega (arith, counts.later); cause = tt }
+
+-- what is left to gather of a text is written, or not yet
+pub gathers_last : {T E : Type 0} (text held gathered middle_held middle_gathered new_held new_gathered : List ℕ) (result : Result T E)
+    → PassesOn text held gathered middle_held middle_gathered → Gathers [] middle_held middle_gathered result new_held new_gathered
+    → Gathers text held gathered result new_held new_gathered
+gathers_last text held gathered middle_held middle_gathered new_held new_gathered result so_far last =
+    subst (λ (t : List ℕ). Gathers t held gathered result new_held new_gathered) (append-nil text)
+    (gathers_behind text [] held gathered middle_held middle_gathered new_held new_gathered result so_far last)
+
+-- all of a text is written, and nothing is left gathered
+pub all_written : {T E : Type 0} (text held gathered middle_held middle_gathered new_held new_gathered : List ℕ) (result : Result T E)
+    → gathered ≡ [] → PassesOn text held gathered middle_held middle_gathered → Gathers [] middle_held middle_gathered result new_held new_gathered
+    → OnOk result (new_gathered ≡ []) → WritesAll held text result new_held
+all_written text held gathered middle_held middle_gathered new_held new_gathered (Ok done) none so_far last empty =
+    let whole = passes_both text [] held gathered middle_held middle_gathered new_held new_gathered so_far last in
+    let written : text ≡ whole.written =
+    sym (append-nil text) ∙ ap (λ (t : List ℕ). t ++ (text ++ [])) (sym none) ∙ whole.parts ∙ ap (λ (t : List ℕ). whole.written ++ t) empty ∙ append-nil whole.written in
+    whole.gained ∙ ap (λ (t : List ℕ). held ++ t) (sym written)
+all_written text held gathered middle_held middle_gathered new_held new_gathered (Err e) none so_far last empty =
+    let stop = gathers_last {T = ℕ} text held gathered middle_held middle_gathered new_held new_gathered (Err e) so_far last in
+    (stop.0, stop.1 ∙ ap (λ (t : List ℕ). held ++ take stop.0 (t ++ text)) none)

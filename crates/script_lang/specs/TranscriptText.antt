@@ -1,12 +1,12 @@
 -- The one text of a transcript.
-use Rattle.std.specs.Prelude.{ℕ, List, [], ◌∷◌, ◌++◌, codes, decimal, map, All}
+use Rattle.std.specs.Prelude.{ℕ, List, [], ◌∷◌, ◌++◌, codes, map, All}
 use Rattle.std.specs.List.{enumerate_from, flat_map}
 use Rattle.hex.specs.Hex.{encode_lower}
 use Rattle.prefs_model.specs.declared.pref_pair.PrefPair.{PrefPair}
 use Rattle.hist_journal.specs.declared.seen.BaseSeen.{BaseSeen}
 use Rattle.hist_journal.specs.declared.seen.BaseSeen.TheVariants.{Held, Corrupt, TooLong as BaseTooLong}
 use Rattle.prefs_text.specs.declared.names.Names.{Names}
-use Rattle.prefs_text.specs.AnswerText.{AnswerHasNames, answer_text}
+use Rattle.prefs_text.specs.AnswerText.{AnswerHasNames, answer_text, numbered}
 use Rattle.prefs_text.specs.EntryText.{PrefEntry, EntryHasNames, entry_text}
 use Rattle.prefs_text.specs.MapText.{map_text}
 use Rattle.script_lang.specs.declared.file_seen.FileSeen.{FileSeen}
@@ -24,32 +24,35 @@ lines_text texts = flat_map line texts
 abbrev pub base_text : BaseSeen (List PrefPair) → List ℕ
 base_text (Held map) = codes "base " ++ map_text map
 base_text Corrupt = codes "base corrupt"
-base_text (BaseTooLong len) = codes "base toolong " ++ decimal len
+base_text (BaseTooLong len) = numbered (codes "base toolong") len
 
 abbrev pub file_text : FileSeen → List ℕ
 file_text Absent = codes "file none"
 file_text (Bytes []) = codes "file empty"
 file_text (Bytes bytes) = codes "file " ++ encode_lower bytes
-file_text (TooLong len) = codes "file toolong " ++ decimal len
+file_text (TooLong len) = numbered (codes "file toolong") len
 
 abbrev pub head_lines : ℕ → BaseSeen (List PrefPair) → List (List ℕ)
-head_lines number base = (codes "session " ++ decimal number) ∷ base_text base ∷ []
+head_lines number base = numbered (codes "session") number ∷ base_text base ∷ []
 
 -- entries are numbered from 1
 abbrev pub entry_lines : Names → List PrefEntry → List (List ℕ)
-entry_lines names entries = map (λ numbered. entry_text names numbered.0 numbered.1) (enumerate_from 1 entries)
+entry_lines names entries = map (λ placed. entry_text names placed.0 placed.1) (enumerate_from 1 entries)
 
--- the base, the answers in their order, the entries, and the file
+-- the entries, and behind them the file
+abbrev pub end_lines : Names → SessionSeen → List (List ℕ)
+end_lines names session = entry_lines names session.entries ++ file_text session.file ∷ []
+
+-- the answers stand between the base and the entries
 unfoldable pub session_lines : Names → ℕ → SessionSeen → List (List ℕ)
-session_lines names number session =
-    head_lines number session.base ++ map (answer_text names) session.answers ++ entry_lines names session.entries ++ file_text session.file ∷ []
+session_lines names number session = head_lines number session.base ++ map (answer_text names) session.answers ++ end_lines names session
 
 abbrev pub session_text : Names → ℕ → SessionSeen → List ℕ
 session_text names number session = lines_text (session_lines names number session)
 
 -- sessions are numbered from 1
 abbrev pub sessions_text : Names → List SessionSeen → List ℕ
-sessions_text names sessions = flat_map (λ numbered. session_text names numbered.0 numbered.1) (enumerate_from 1 sessions)
+sessions_text names sessions = flat_map (λ placed. session_text names placed.0 placed.1) (enumerate_from 1 sessions)
 
 abbrev pub text : Transcript → List ℕ
 text transcript = sessions_text transcript.names transcript.sessions

@@ -1,13 +1,12 @@
-ghost use Rattle.std.specs.Prelude.{◌≡◌, ◌++◌, codes, decimal, string_bytes, OnOk};
+ghost use Rattle.std.specs.Prelude.{◌≡◌, ◌++◌, string_bytes, OnOk};
 ghost use Rattle.hist_journal.specs.View.{base_seen};
 ghost use Rattle.script_lang.specs.declared.file_seen.FileSeen.TheVariants.{Bytes};
-ghost use Rattle.script_lang.specs.TranscriptText.{base_text, file_text, head_lines, line, lines_text};
+ghost use Rattle.script_lang.specs.TranscriptText.{base_text, file_text, head_lines, lines_text};
 
 use crate::FileSeen;
 use hist_journal::Base;
-use itoa::Buffer;
 use prefs_model::PrefMap;
-use prefs_text::push_map;
+use prefs_text::{push_map, push_numbered};
 use std::alloc::AllocError;
 
 /// Appends the lines with which a session begins: its number and its base.
@@ -18,8 +17,7 @@ pub(crate) fn push_head(
 ) -> Result<(), AllocError>
     ensures { OnOk result (string_bytes out.new ≡ string_bytes out.old ++ lines_text (head_lines number (base_seen base.now))) }
 {
-    out.push_str("session ")?;
-    out.push_str(Buffer::new().format(number))?;
+    push_numbered(out, "session", number)?;
     out.push_str("\n")?;
     push_base(out, base)?;
     out.push_str("\n")
@@ -34,31 +32,18 @@ fn push_base(out: &mut String, base: &Base<PrefMap>) -> Result<(), AllocError>
             push_map(out, map)
         }
         Base::Corrupt => out.push_str("base corrupt"),
-        Base::TooLong(len) => {
-            out.push_str("base toolong ")?;
-            out.push_str(Buffer::new().format(*len))
-        }
+        Base::TooLong(len) => push_numbered(out, "base toolong", *len),
     }
 }
 
-/// Appends the line with which a session ends: main.
-pub(crate) fn push_file_line(out: &mut String, file: &FileSeen) -> Result<(), AllocError>
-    ensures { OnOk result (string_bytes out.new ≡ string_bytes out.old ++ line (file_text file.now)) }
-{
-    push_file(out, file)?;
-    out.push_str("\n")
-}
-
-fn push_file(out: &mut String, file: &FileSeen) -> Result<(), AllocError>
+/// Appends what main is, without the end of the line.
+pub(crate) fn push_file(out: &mut String, file: &FileSeen) -> Result<(), AllocError>
     ensures { OnOk result (string_bytes out.new ≡ string_bytes out.old ++ file_text file.now) }
 {
     match file {
         FileSeen::Absent => out.push_str("file none"),
         FileSeen::Bytes(bytes) => push_bytes(out, bytes.as_slice()),
-        FileSeen::TooLong(len) => {
-            out.push_str("file toolong ")?;
-            out.push_str(Buffer::new().format(*len))
-        }
+        FileSeen::TooLong(len) => push_numbered(out, "file toolong", *len),
     }
 }
 
