@@ -6,4 +6,6 @@ pub mod JsonBack
 pub mod InLine
 pub mod Back
 pub mod CallerNames
+pub mod OneLine
 pub mod OneValue
+pub mod TranscriptLines

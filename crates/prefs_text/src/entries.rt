@@ -48,11 +48,7 @@ pub fn push_entry(
 }
 
 #[tactic(auto, unfolding(crate::specs::EntryText::kind_text))]
-fn push_kind(
-    out: &mut String,
-    names: &Names,
-    kind: &Kind<PrefMap, Edit>,
-) -> Result<(), AllocError>
+fn push_kind(out: &mut String, names: &Names, kind: &Kind<PrefMap, Edit>) -> Result<(), AllocError>
     requires { KindHasNames names.now (kind_seen kind.now) }
     ensures { OnOk result (string_bytes out.new ≡ string_bytes out.old ++ kind_text names.now (kind_seen kind.now)) }
 {

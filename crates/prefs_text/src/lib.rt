@@ -32,7 +32,9 @@ pub use answer_line::AnswerLine;
 pub use answers::{answer_text, push_answer};
 pub use edits::edit_text;
 pub use entries::{entry_text, push_entry};
-pub use laws::{one_value, texts_read_back};
+pub use laws::{
+    answers_are_in_line, edits_are_in_line, entries_are_in_line, one_value, texts_read_back,
+};
 pub use maps::{map_text, push_map, push_pair};
 pub use name_list::NameList;
 pub use names::Names;
