@@ -1,5 +1,5 @@
 -- No text of an entry or an answer breaks a line.
-use Rattle.std.proofs.Common.{◌≡◌, ℕ, List, ◌++◌, Option, None, Some, true, decimal, refl}
+use Rattle.std.proofs.Common.{ℕ, List, ◌++◌, Option, None, Some, decimal, refl}
 use Rattle.std.specs.Prelude.{All, codes}
 use Rattle.json.specs.Print.{quoted}
 use Rattle.prefs_model.specs.declared.pref_pair.PrefPair.{PrefPair}

@@ -1,7 +1,6 @@
 -- The text that is pushed is the caller's name.
-use Rattle.std.proofs.Common.{rules, ◌≡◌, ◌++◌, List, ℕ, arith}
+use Rattle.std.proofs.Common.{arith}
 use Rattle.std.proofs.lemmas.Grind.{common_steps}
-use Rattle.prefs_text.specs.Callers.{caller_name}
 use Rattle.prefs_text.proofs.CallerNames.{caller_name-client, caller_name-actor}
 use Rattle.prefs_text.proofs.callers.push_caller.Goals as goal
 
