@@ -3,6 +3,7 @@
 #![tactic(auto)]
 
 mod room;
+mod transcripts;
 
 use anyhow::{Context, Result, bail};
 use byte_io::{MemSink, NeverFails};
@@ -68,14 +69,19 @@ fn shown(alloc: Global, bytes: &[u8]) -> Result<u64> {
 
 /// `ds_bench WORK FILE TIMES` prints the work, the file's bytes, the times and the nanoseconds in all.
 /// `ds_bench turn THREADS TIMES` and `ds_bench load THREADS TIMES` print the work, the threads, the times on each
-/// thread and the nanoseconds in all. Without words it does nothing.
+/// thread and the nanoseconds in all.
+/// `ds_bench transcript LINES TIMES` prints that word, the lines, how many transcripts of so many lines are written
+/// in a round, and the nanoseconds of the fastest of so many rounds.
+/// Without words it does nothing.
 fn main(rt: HostRuntime) -> Result<()> {
     let mut words = env::args(&rt)?;
     let _program = words.next();
     let Some(name) = words.next() else {
         return Ok(());
     };
-    let place = words.next().context("which file, or how many threads?")?;
+    let place = words
+        .next()
+        .context("which file, how many threads, or how many lines?")?;
     let times = words
         .next()
         .context("how often?")?
@@ -87,6 +93,13 @@ fn main(rt: HostRuntime) -> Result<()> {
         room::run(&rt, rt.alloc(), work, threads, times)?;
         let nanoseconds = start.elapsed(&rt)?.as_nanos();
         println!(rt; "{name} {threads} {times} {nanoseconds}")?;
+        return Ok(());
+    }
+    if name.as_str() == "transcript" {
+        let lines = place.parse::<u32>().context("how many lines?")?;
+        let count = transcripts::count_of(lines);
+        let nanoseconds = transcripts::fastest_round(&rt, lines, times)?;
+        println!(rt; "{name} {lines} {count} {nanoseconds}")?;
         return Ok(());
     }
     let Some(work) = Work::named(name.as_str()) else {
