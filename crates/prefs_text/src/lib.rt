@@ -16,9 +16,10 @@ mod value_kind;
 mod value_text_error;
 mod values;
 
+pub use json_texts::quoted_text;
 pub use laws::{one_value, texts_read_back};
 pub use maps::{map_text, push_pair};
-pub use read::parse_value;
+pub use read::{content_value, parse_value};
 pub use scalars::plain_value;
 pub use value_kind::ValueKind;
 pub use value_text_error::ValueTextError;
