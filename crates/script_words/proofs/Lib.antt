@@ -1,0 +1,4 @@
+mod Walk
+mod WalkIn
+mod WalkOut
+pub mod OneLine

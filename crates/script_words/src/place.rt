@@ -1,4 +1,4 @@
-ghost use Rattle.std.specs.Prelude.{◌≡◌, ◌↔◌, ◌⊎◌, IsTrue};
+ghost use Rattle.std.specs.Prelude.{◌≡◌};
 
 /// Where in a word a byte stands.
 #[derive(Clone, Copy)]
@@ -20,13 +20,19 @@ pub(crate) enum Place {
 }
 
 impl Place {
+    ghost use Rattle.script_words.specs.Place.{after, ends_at_space};
+
     /// Whether a space ends the word here.
-    pub(crate) fn ends_at_space(self) -> bool {
+    pub(crate) fn ends_at_space(self) -> bool
+        ensures { result ≡ ends_at_space self }
+    {
         matches!(self, Place::Start | Place::Outside)
     }
 
     /// The place behind this byte.
-    pub(crate) fn after(self, byte: u8) -> Place {
+    pub(crate) fn after(self, byte: u8) -> Place
+        ensures { result ≡ after self byte }
+    {
         match (self, byte) {
             (Place::Start, b'"') => Place::Quoted,
             (Place::Start, b'[') => Place::Listed,
