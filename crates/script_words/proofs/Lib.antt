@@ -2,3 +2,4 @@ mod Walk
 mod WalkIn
 mod WalkOut
 pub mod OneLine
+pub mod ReadSoFar

@@ -20,7 +20,7 @@ last_stays word (inl whole) = (whole_ends word whole).stays
 last_stays word (inr unclosed) = unclosed_stays word unclosed
 
 -- one more word in front
-join_cons : (word : List ℕ) (others : List (List ℕ)) (last : List ℕ)
+pub join_cons : (word : List ℕ) (others : List (List ℕ)) (last : List ℕ)
     → join_with_byte 32 (word ∷ (others ++ last ∷ [])) ≡ word ++ 32 ∷ join_with_byte 32 (others ++ last ∷ [])
 join_cons word [] last = refl
 join_cons word (next ∷ others) last = refl

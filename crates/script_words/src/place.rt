@@ -1,4 +1,4 @@
-ghost use Rattle.std.specs.Prelude.{◌≡◌};
+ghost use Rattle.std.specs.Prelude.{◌≡◌, ◌↔◌, Bool, true, IsTrue};
 
 /// Where in a word a byte stands.
 #[derive(Clone, Copy)]
@@ -22,11 +22,11 @@ pub(crate) enum Place {
 impl Place {
     ghost use Rattle.script_words.specs.Place.{after, ends_at_space};
 
-    /// Whether a space ends the word here.
-    pub(crate) fn ends_at_space(self) -> bool
-        ensures { result ≡ ends_at_space self }
+    /// Whether this byte, which is a space then, ends the word.
+    pub(crate) fn ends_at(self, byte: u8) -> bool
+        ensures { IsTrue result ↔ (byte ≡ 32) × (ends_at_space self ≡ true) }
     {
-        matches!(self, Place::Start | Place::Outside)
+        byte == b' ' && matches!(self, Place::Start | Place::Outside)
     }
 
     /// The place behind this byte.
