@@ -20,7 +20,7 @@ pub use json_texts::quoted_text;
 pub use laws::{one_value, texts_read_back};
 pub use maps::{map_text, push_pair};
 pub use read::{content_value, parse_value};
-pub use scalars::plain_value;
+pub use scalars::{int_of, long_of, plain_value};
 pub use value_kind::ValueKind;
 pub use value_text_error::ValueTextError;
 pub use values::{push_value, value_text};
