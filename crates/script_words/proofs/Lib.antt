@@ -2,6 +2,8 @@ pub mod AnyLemmas
 pub mod OneLine
 pub mod PartLemmas
 pub mod ReadSoFar
+pub mod Refusals
+pub mod RowLemmas
 mod Walk
 mod WalkIn
 mod WalkOut
