@@ -4,6 +4,7 @@ pub mod PartLemmas
 pub mod ReadSoFar
 pub mod Refusals
 pub mod RowLemmas
+pub mod StepLists
 mod Walk
 mod WalkIn
 mod WalkOut
