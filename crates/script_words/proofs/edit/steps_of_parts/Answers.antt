@@ -6,7 +6,7 @@ use Rattle.script_words.specs.Parts.{parts_at}
 use Rattle.script_words.specs.StepWords.{AreStepWords}
 use Rattle.script_words.proofs.Refusals.{passed_on}
 use Rattle.script_words.proofs.StepLists.{no_steps, steps_more}
-use Rattle.script_words.proofs.edit.steps_of.Goals as goal
+use Rattle.script_words.proofs.edit.steps_of_parts.Goals as goal
 
 pub returns-in_err-step_of-clause-err : goal.returns-in_err-step_of-clause-err
 returns-in_err-step_of-clause-err c =
