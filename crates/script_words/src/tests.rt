@@ -92,8 +92,14 @@ fn numbers_are_within_bounds(rt: HostRuntime) {
         assert_eq!(rt; number_of(word, 0, 1000), wanted, "{word}");
     }
     assert_eq!(rt; number_of("0", 1, 4_294_967_295), None);
-    assert_eq!(rt; number_of("4294967295", 1, 4_294_967_295), Some(4_294_967_295));
-    assert_eq!(rt; number_of("18446744073709551615", 0, u64::MAX), Some(u64::MAX));
+    assert_eq!(rt;
+        number_of("4294967295", 1, 4_294_967_295),
+        Some(4_294_967_295)
+    );
+    assert_eq!(rt;
+        number_of("18446744073709551615", 0, u64::MAX),
+        Some(u64::MAX)
+    );
 }
 
 /// Words of an edit, and why they are none.
@@ -140,7 +146,10 @@ const EDITS: [(&str, Option<WordsError>); 60] = [
     ("remove", Some(WordsError::BadValue)),
     (r#"addint "k" 2147483648"#, Some(WordsError::BadValue)),
     (r#"addint "k" -2147483649"#, Some(WordsError::BadValue)),
-    (r#"addlong "k" 9223372036854775808"#, Some(WordsError::BadValue)),
+    (
+        r#"addlong "k" 9223372036854775808"#,
+        Some(WordsError::BadValue),
+    ),
     (r#"addint "k" +1"#, Some(WordsError::BadValue)),
     (r#"addint "k" "1""#, Some(WordsError::BadValue)),
     (r#"insert "k" x"#, Some(WordsError::BadValue)),
@@ -151,7 +160,10 @@ const EDITS: [(&str, Option<WordsError>); 60] = [
     ("many clear ;", Some(WordsError::BadValue)),
     ("many ; clear", Some(WordsError::BadValue)),
     ("many clear clear", Some(WordsError::BadValue)),
-    ("many clear ; many clear ; clear", Some(WordsError::BadValue)),
+    (
+        "many clear ; many clear ; clear",
+        Some(WordsError::BadValue),
+    ),
     ("many clear ; many jump ; clear", Some(WordsError::BadValue)),
     (r#"many set "k" int ; clear"#, Some(WordsError::BadValue)),
     (r#"many set "k" int ; jump"#, Some(WordsError::UnknownWord)),
