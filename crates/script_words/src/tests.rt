@@ -185,3 +185,57 @@ fn edits_are_read(rt: HostRuntime) -> Result<(), Fail> {
     }
     Ok(())
 }
+
+#[test]
+fn no_words_are_no_edit(rt: HostRuntime) {
+    let answer = edit_of(rt.alloc(), &[]).err();
+    assert_eq!(rt; answer, Some(WordsError::BadValue));
+}
+
+#[test]
+fn an_edit_has_at_most_16_steps(rt: HostRuntime) -> Result<(), Fail> {
+    let alloc = rt.alloc();
+    for (more, wanted) in [(15, None), (16, Some(WordsError::BadValue))] {
+        let behind = " ; clear".repeat(alloc, more)?;
+        let line = format!(in alloc; "many clear{behind}")?;
+        assert_eq!(rt; fault(alloc, line.as_str())?, wanted, "{more}");
+    }
+    Ok(())
+}
+
+#[test]
+fn an_edit_weighs_at_most_65536(rt: HostRuntime) -> Result<(), Fail> {
+    let alloc = rt.alloc();
+    for (len, wanted) in [(65519, None), (65520, Some(WordsError::BadValue))] {
+        let text = "a".repeat(alloc, len)?;
+        let line = format!(in alloc; "set \"k\" text \"{text}\"")?;
+        assert_eq!(rt; fault(alloc, line.as_str())?, wanted, "{len}");
+    }
+    Ok(())
+}
+
+#[test]
+fn keys_have_at_most_1024_bytes(rt: HostRuntime) -> Result<(), Fail> {
+    let alloc = rt.alloc();
+    for (len, is_key) in [(1024, true), (1025, false)] {
+        let key = "k".repeat(alloc, len)?;
+        let word = format!(in alloc; "\"{key}\"")?;
+        assert_eq!(rt; key_of(alloc, word.as_str()).is_ok(), is_key, "{len}");
+    }
+    Ok(())
+}
+
+#[test]
+fn texts_are_quoted(rt: HostRuntime) {
+    for (word, wanted) in [
+        (r#""""#, None),
+        (r#""a\nb""#, None),
+        (r#""a"b"#, Some(WordsError::BadValue)),
+        (r#""a"#, Some(WordsError::BadValue)),
+        (r#"a"#, Some(WordsError::BadValue)),
+        ("", Some(WordsError::BadValue)),
+        ("\"\t\"", Some(WordsError::BadValue)),
+    ] {
+        assert_eq!(rt; text_of(rt.alloc(), word).err(), wanted, "{word}");
+    }
+}
