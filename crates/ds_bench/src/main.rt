@@ -2,6 +2,8 @@
 //! that took. It stands on the crates whose work it does. `bench/run` builds and runs it.
 #![tactic(auto)]
 
+mod transcripts;
+
 use anyhow::{Context, Result, bail};
 use byte_io::{MemSink, NeverFails};
 use folder_disk::{MainRead, MemFolder};
@@ -64,6 +66,7 @@ fn shown(alloc: Global, bytes: &[u8]) -> Result<u64> {
 }
 
 /// `ds_bench WORK FILE TIMES` prints the work, the file's bytes, the times and the nanoseconds in all.
+/// `ds_bench transcript LINES TIMES` prints that word, the lines, the times and the nanoseconds of the fastest.
 /// Without words it does nothing.
 fn main(rt: HostRuntime) -> Result<()> {
     let mut words = env::args(&rt)?;
@@ -71,16 +74,22 @@ fn main(rt: HostRuntime) -> Result<()> {
     let Some(name) = words.next() else {
         return Ok(());
     };
-    let Some(work) = Work::named(name.as_str()) else {
-        bail!("no such work");
-    };
-    let path = words.next().context("which file?")?;
+    let place = words.next().context("which file, or how many lines?")?;
     let times = words
         .next()
         .context("how often?")?
         .parse::<u32>()
         .context("how often?")?;
-    let bytes = fs::read(&rt, path.as_str())?;
+    if name.as_str() == "transcript" {
+        let lines = place.parse::<u32>().context("how many lines?")?;
+        let nanoseconds = transcripts::fastest(&rt, lines, times)?;
+        println!(rt; "{name} {lines} {times} {nanoseconds}")?;
+        return Ok(());
+    }
+    let Some(work) = Work::named(name.as_str()) else {
+        bail!("no such work");
+    };
+    let bytes = fs::read(&rt, place.as_str())?;
     let nanoseconds = timed(&rt, work, &bytes, times)?;
     let len = bytes.len();
     println!(rt; "{name} {len} {times} {nanoseconds}")?;

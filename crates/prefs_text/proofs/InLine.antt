@@ -9,7 +9,7 @@ use Rattle.json.proofs.Printed.Strings.{escape_byte_plain}
 use Rattle.prefs_text.specs.Content.{IsInLine}
 use Rattle.prefs_text.specs.ValueText.{list_text}
 
-in_line : ℕ → Bool
+unfoldable pub in_line : ℕ → Bool
 in_line byte = not (byte == 9) && (not (byte == 10) && not (byte == 13))
 
 -- the test of what is printed of the bytes below n
@@ -27,7 +27,7 @@ IsInLine-from_test byte h =
     let but : (blank : ℕ) → in_line blank ≡ false → byte ≢ blank = λ blank no e. false≢true (sym no ∙ subst (λ b. in_line b ≡ true) e h) in
     (but 9 refl, but 10 refl, but 13 refl)
 
-All-from_test : (bytes : List ℕ) → list_all in_line bytes ≡ true → All IsInLine bytes
+pub All-from_test : (bytes : List ℕ) → list_all in_line bytes ≡ true → All IsInLine bytes
 All-from_test [] h = All-nil IsInLine
 All-from_test (byte ∷ bytes) h =
     let parts = and_parts (in_line byte) (list_all in_line bytes) h in
@@ -51,11 +51,11 @@ line-escape_byte byte = elim (cases_lt byte 93) [
       rw (escape_byte_plain byte (omega arith) (omega arith) (omega arith)) (All-cons IsInLine byte [] itself (All-nil IsInLine))
 ]
 
-line-flat_map : {X : Type 0} (f : X → List ℕ) → ((x : X) → All IsInLine (f x)) → (xs : List X) → All IsInLine (flat_map f xs)
+pub line-flat_map : {X : Type 0} (f : X → List ℕ) → ((x : X) → All IsInLine (f x)) → (xs : List X) → All IsInLine (flat_map f xs)
 line-flat_map f each [] = All-nil IsInLine
 line-flat_map f each (x ∷ xs) = All-append IsInLine (f x) (flat_map f xs) (each x) (line-flat_map f each xs)
 
-line-quoted : (text : List ℕ) → All IsInLine (quoted text)
+pub line-quoted : (text : List ℕ) → All IsInLine (quoted text)
 unfolding in_line
 line-quoted text =
     let mark = All-from_test (34 ∷ []) refl in

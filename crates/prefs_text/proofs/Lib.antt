@@ -5,4 +5,7 @@ pub mod KindNames
 pub mod JsonBack
 pub mod InLine
 pub mod Back
+pub mod CallerNames
+pub mod OneLine
 pub mod OneValue
+pub mod TranscriptLines

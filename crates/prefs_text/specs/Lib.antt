@@ -1,4 +1,9 @@
+pub mod AnswerText
+pub mod AnswerView
+pub mod Callers
 pub mod Content
+pub mod EditText
+pub mod EntryText
 pub mod MapText
 pub mod PlainWord
 pub mod Reading

@@ -1,7 +1,7 @@
-ghost use Rattle.std.specs.Prelude.{◌≡◌, ◌++◌, codes, string_bytes, OnOk, IfOk};
-ghost use Rattle.std.specs.List.{join_by};
+ghost use Rattle.std.specs.Prelude.{◌≡◌, ◌++◌, string_bytes, OnOk, IfOk};
 ghost use Rattle.prefs_text.specs.MapText.{map_text, pair_text};
 
+use crate::joined::{Printed, push_joined};
 use crate::quoted::push_quoted;
 use crate::values::push_value;
 use prefs_model::{PrefMap, PrefPair, PrefText};
@@ -12,10 +12,17 @@ pub fn map_text(alloc: Global, map: &PrefMap) -> Result<PrefText, AllocError>
     ensures { IfOk result (λ text. text ≡ map_text map.now) }
 {
     let mut text = String::new(alloc);
-    text.push_str("{")?;
-    push_pairs(&mut text, map.pairs())?;
-    text.push_str("}")?;
+    push_map(&mut text, map)?;
     Ok(PrefText::new(text))
+}
+
+/// Appends the text of the map.
+pub fn push_map(out: &mut String, map: &PrefMap) -> Result<(), AllocError>
+    ensures { OnOk result (string_bytes out.new ≡ string_bytes out.old ++ map_text map.now) }
+{
+    out.push_str("{")?;
+    push_joined(out, map.pairs(), ", ")?;
+    out.push_str("}")
 }
 
 /// Appends the text of the pair: the quoted key, a space, and the value's text.
@@ -27,15 +34,10 @@ pub fn push_pair(text: &mut String, pair: &PrefPair) -> Result<(), AllocError>
     push_value(text, &pair.value)
 }
 
-fn push_pairs(text: &mut String, pairs: &[PrefPair]) -> Result<(), AllocError>
-    ensures { OnOk result (string_bytes text.new ≡ string_bytes text.old ++ join_by pair_text (codes ", ") pairs.now) }
-{
-    if let [first, others @ ..] = pairs {
-        push_pair(text, first)?;
-        for pair in others {
-            text.push_str(", ")?;
-            push_pair(text, pair)?;
-        }
+impl Printed for PrefPair {
+    ghost text = { pair_text };
+
+    fn push_to(&self, out: &mut String) -> Result<(), AllocError> {
+        push_pair(out, self)
     }
-    Ok(())
 }

@@ -1,3 +1,5 @@
+mod lines;
+
 use crate::{
     ValueKind, ValueTextError, map_text, parse_value, plain_value, push_pair, push_value,
     value_text,

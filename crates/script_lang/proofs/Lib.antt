@@ -1,0 +1,3 @@
+pub mod GatheringLemmas
+pub mod ListLemmas
+pub mod SessionLemmas
