@@ -3,6 +3,9 @@ pub mod EditFaults
 pub mod OneEdit
 pub mod OneLine
 pub mod PartLemmas
+pub mod PrintedEdits
+pub mod PrintedScalars
+pub mod PrintedSteps
 pub mod PrintedWords
 pub mod ReadSoFar
 pub mod Refusals

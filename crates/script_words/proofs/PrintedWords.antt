@@ -17,7 +17,7 @@ is_quotable [] = true
 is_quotable (byte ∷ []) = not (byte == 34) && not (byte == 92)
 is_quotable (byte ∷ next ∷ rest) = cond (byte == 92) (is_quotable rest) (not (byte == 34) && is_quotable (next ∷ rest))
 
-not_same : (a b : ℕ) → not (a == b) ≡ true → a ≢ b
+pub not_same : (a b : ℕ) → not (a == b) ≡ true → a ≢ b
 not_same a b differs same = elim (eqb_tells a b) [
   | inl told ↦ false≢true (sym (ap not told.0) ∙ differs)
   | inr told ↦ told.1 same

@@ -1,9 +1,11 @@
 //! What words have, for every line: each law is the contract of a function that does nothing.
-ghost use Rattle.std.specs.Prelude.{◌≡◌, ℕ, List};
+ghost use Rattle.std.specs.Prelude.{◌≡◌, ℕ, List, All};
 ghost use Rattle.json.specs.Print.{quoted};
+ghost use Rattle.prefs_edit.specs.Edit.{IsEdit};
 ghost use Rattle.prefs_edit.specs.declared.edit_step.EditStep.{EditStep};
 ghost use Rattle.prefs_text.specs.ValueText.{list_text};
 ghost use Rattle.script_words.specs.EditWords.{AreEditWords, HasUnknown};
+ghost use Rattle.script_words.specs.PrintedSteps.{IsTyped, ReadsBack};
 ghost use Rattle.script_words.specs.Words.{AreWords, IsWhole};
 
 /// Each line has words.
@@ -34,4 +36,9 @@ pub fn quoted_texts_are_words()
 /// And so is what is printed of a list of texts.
 pub fn lists_are_words()
     ensures { (texts : List (List ℕ)) → IsWhole (list_text texts) }
+{}
+
+/// The words of an edit's text are the edit.
+pub fn edits_read_back()
+    ensures { (edit : List EditStep) → IsEdit edit → All IsTyped edit → ReadsBack edit }
 {}

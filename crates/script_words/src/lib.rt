@@ -21,7 +21,7 @@ mod words_error;
 
 pub use edit::edit_of;
 pub use laws::{
-    edits_have_no_unknown_word, lists_are_words, one_edit, one_list_of_words,
+    edits_have_no_unknown_word, edits_read_back, lists_are_words, one_edit, one_list_of_words,
     quoted_texts_are_words, words_are_there,
 };
 pub use line::line_words;
