@@ -66,7 +66,8 @@ fn shown(alloc: Global, bytes: &[u8]) -> Result<u64> {
 }
 
 /// `ds_bench WORK FILE TIMES` prints the work, the file's bytes, the times and the nanoseconds in all.
-/// `ds_bench transcript LINES TIMES` prints that word, the lines, the times and the nanoseconds of the fastest.
+/// `ds_bench transcript LINES TIMES` prints that word, the lines, how many transcripts of so many lines are written
+/// in a round, and the nanoseconds of the fastest of so many rounds.
 /// Without words it does nothing.
 fn main(rt: HostRuntime) -> Result<()> {
     let mut words = env::args(&rt)?;
@@ -82,8 +83,9 @@ fn main(rt: HostRuntime) -> Result<()> {
         .context("how often?")?;
     if name.as_str() == "transcript" {
         let lines = place.parse::<u32>().context("how many lines?")?;
-        let nanoseconds = transcripts::fastest(&rt, lines, times)?;
-        println!(rt; "{name} {lines} {times} {nanoseconds}")?;
+        let count = transcripts::count_of(lines);
+        let nanoseconds = transcripts::fastest_round(&rt, lines, times)?;
+        println!(rt; "{name} {lines} {count} {nanoseconds}")?;
         return Ok(());
     }
     let Some(work) = Work::named(name.as_str()) else {

@@ -6,28 +6,73 @@ ghost use Rattle.script_lang.specs.TranscriptText.{HasNames, SessionHasNames};
 ghost use Rattle.script_lang.specs.TranscriptView.{session_seen};
 
 use anyhow::Result;
-use byte_io::MemSink;
+use byte_io::Sink;
 use hist_journal::{Base, Bounds, Entry, Journal, Kind, PrefName};
 use prefs_edit::{Edit, EditStep};
 use prefs_model::{PrefKey, PrefMap, PrefValue};
 use prefs_text::{Answer, AnswerLine, NameList, Names};
 use script_lang::{AnswerList, FileSeen, Session, SessionList, Transcript, write_transcript};
 use std::alloc::Global;
+use std::hint::black_box;
 use std::time::Instant;
-use store_traits::{CallId, ClientId, NodeId};
+use store_traits::{CallId, ClientId, Failed, NodeId};
 
-/// The nanoseconds of the fastest of so many times that a transcript of so many lines, and three, is written.
-pub(crate) fn fastest(rt: &HostRuntime, lines: u32, times: u32) -> Result<u128> {
-    let transcript = transcript(rt.alloc(), lines / 2)?;
+/// How many lines the transcripts of a round have together, at least.
+const ROUND_LINES: u32 = 400_000;
+
+/// How many transcripts of so many lines a round has.
+pub(crate) fn count_of(lines: u32) -> u32 {
+    (ROUND_LINES / lines.max(1)).max(1)
+}
+
+/// The nanoseconds of the fastest of so many rounds, in each of which transcripts of so many lines, and three, are
+/// written one after the other. Rounds of all sizes go over as much memory, so that none finds it in a cache.
+pub(crate) fn fastest_round(rt: &HostRuntime, lines: u32, rounds: u32) -> Result<u128> {
+    let transcripts = transcripts(rt.alloc(), lines / 2, count_of(lines))?;
     let mut fastest = u128::MAX;
-    for _ in 0..times {
-        let room = u64::from(lines) * 64 + 4096;
-        let mut sink = MemSink::new(rt.alloc(), room, Vec::new(rt.alloc()))?;
+    for _ in 0..rounds {
         let start = Instant::now(rt)?;
-        write_transcript(rt.alloc(), &mut sink, &transcript)?;
+        write_all_of(rt.alloc(), &transcripts)?;
         fastest = fastest.min(start.elapsed(rt)?.as_nanos());
     }
     Ok(fastest)
+}
+
+fn write_all_of(alloc: Global, transcripts: &[Transcript]) -> Result<()>
+    requires { All HasNames transcripts.now }
+{
+    for transcript in transcripts {
+        write_transcript(alloc, &mut Discard, transcript)?;
+    }
+    Ok(())
+}
+
+fn transcripts(alloc: Global, updates: u32, count: u32) -> Result<Vec<Transcript>>
+    ensures { IfOk result (λ transcripts. All HasNames transcripts.items) }
+{
+    let mut transcripts = Vec::new(alloc);
+    for _ in 0..count {
+        transcripts.push(transcript(alloc, updates)?)?;
+    }
+    Ok(transcripts)
+}
+
+/// A sink that takes every piece whole and keeps nothing.
+#[derive(Drop)]
+struct Discard;
+
+impl Sink for Discard {
+    ghost use Rattle.std.specs.Prelude.{[], false};
+
+    ghost told = { false };
+
+    ghost held = { λ _. [] };
+
+    ghost count = { λ _. 0 };
+
+    fn write(&mut self, piece: &[u8]) -> std::result::Result<usize, Failed> {
+        Ok(black_box(piece).len())
+    }
 }
 
 fn transcript(alloc: Global, updates: u32) -> Result<Transcript>
