@@ -1,15 +1,15 @@
 -- The words of what is printed of an edit, and that they are the edit.
-use Rattle.std.proofs.Common.{◌≡◌, ◌≢◌, ◌∙◌, ◌≤◌, inl, inr, ℕ, List, [], ◌∷◌, ◌++◌, All, Bool, true, false, codes, length, refl, sym, ap, subst, arith, append_assoc, append-nil}
+use Rattle.std.proofs.Common.{◌≡◌, ◌≢◌, ◌∙◌, inl, inr, ℕ, List, [], ◌∷◌, ◌++◌, All, false, codes, refl, sym, ap, subst, arith, append_assoc, append-nil}
 use Rattle.std.specs.Prelude.{map}
-use Rattle.std.specs.List.{AllZip, flat_map, join_by, join_with_byte, slice_split}
+use Rattle.std.specs.List.{AllZip, flat_map, join_by, join_with_byte}
 use Rattle.std.proofs.lemmas.List.Elements.{All-nil, All-cons, All-head, All-tail, All-append, All-weaker}
 use Rattle.std.proofs.lemmas.List.Splits.{slice_split_at, slice_split_none}
 use Rattle.prefs_edit.specs.Edit.{IsEdit}
 use Rattle.prefs_edit.specs.declared.edit_step.EditStep.{EditStep}
 use Rattle.prefs_text.specs.EditText.{edit_text, step_text}
-use Rattle.script_words.specs.EditWords.{AreEditWords, SpellSteps}
+use Rattle.script_words.specs.EditWords.{SpellSteps}
 use Rattle.script_words.specs.Parts.{is_semicolon, parts_of}
-use Rattle.script_words.specs.PrintedSteps.{IsTyped, ReadsBack}
+use Rattle.script_words.specs.ReadBack.{IsTyped, ReadsBack}
 use Rattle.script_words.specs.StepWords.{AreStepWords}
 use Rattle.script_words.specs.Words.{AreWords, IsWhole}
 use Rattle.script_words.proofs.PrintedScalars.{IsPrinted}
@@ -46,17 +46,21 @@ joined first (next ∷ rest) = ap (λ text. codes "many " ++ text) (steps_joined
 
 whole_semicolon : IsWhole (codes ";")
 whole_semicolon = record {
-  front = []; rest = codes ";"; parts = refl;
+  front = [];
+  rest = codes ";";
+  parts = refl;
   begins = inr (refl, λ marked. elim marked [ inl e ↦ omega arith | inr e ↦ omega arith ]);
   spaceless = All-cons (λ byte. byte ≢ 32) 59 [] (λ e. omega (arith, e)) (All-nil (λ byte. byte ≢ 32));
 }
 
 whole_many : IsWhole (codes "many")
 whole_many = record {
-  front = []; rest = codes "many"; parts = refl;
+  front = [];
+  rest = codes "many";
+  parts = refl;
   begins = inr (refl, λ marked. elim marked [ inl e ↦ omega arith | inr e ↦ omega arith ]);
   spaceless = All-cons (λ byte. byte ≢ 32) 109 (97 ∷ 110 ∷ 121 ∷ []) (λ e. omega (arith, e)) (All-cons (λ byte. byte ≢ 32) 97 (110 ∷ 121 ∷ []) (λ e. omega (arith, e))
-    (All-cons (λ byte. byte ≢ 32) 110 (121 ∷ []) (λ e. omega (arith, e)) (All-cons (λ byte. byte ≢ 32) 121 [] (λ e. omega (arith, e)) (All-nil (λ byte. byte ≢ 32)))));
+      (All-cons (λ byte. byte ≢ 32) 110 (121 ∷ []) (λ e. omega (arith, e)) (All-cons (λ byte. byte ≢ 32) 121 [] (λ e. omega (arith, e)) (All-nil (λ byte. byte ≢ 32)))));
 }
 
 printed : (step : EditStep) → IsTyped step → All IsPrinted (words_of_step step)
@@ -82,8 +86,12 @@ are_words word [] whole = record { others = []; last = word; parts = refl; joine
 are_words word (next ∷ words) whole =
     let rest = are_words next words (All-tail IsWhole word (next ∷ words) whole) in
     record {
-      others = word ∷ rest.others; last = rest.last; parts = ap (λ ws. word ∷ ws) rest.parts; joined = refl;
-      whole = All-cons IsWhole word rest.others (All-head IsWhole word (next ∷ words) whole) rest.whole; ends = rest.ends;
+      others = word ∷ rest.others;
+      last = rest.last;
+      parts = ap (λ ws. word ∷ ws) rest.parts;
+      joined = refl;
+      whole = All-cons IsWhole word rest.others (All-head IsWhole word (next ∷ words) whole) rest.whole;
+      ends = rest.ends;
     }
 
 are_words_of : (first : EditStep) (rest : List EditStep) → All IsTyped (first ∷ rest) → AreWords (words_of (first ∷ rest)) (join_with_byte 32 (words_of (first ∷ rest)))

@@ -1,12 +1,12 @@
 -- What is printed of a value is one whole word, and no semicolon.
-use Rattle.std.proofs.Common.{◌≡◌, ◌≢◌, ◌∙◌, ◌⊎◌, ◌<◌, ◌≤◌, ◌^◌, ◌/◌, ◌%◌, ◌==◌, ◌&&◌, inl, inr, ℕ, ℤ, pos, negsuc, zero, suc, List, [], ◌∷◌, ◌++◌, All, Bool, true, false, get_or, length, codes, refl, sym, ap, subst, arith}
+use Rattle.std.proofs.Common.{◌≡◌, ◌≢◌, ◌⊎◌, ◌<◌, ◌^◌, ◌/◌, ◌%◌, ◌==◌, ◌&&◌, inl, inr, ℕ, ℤ, pos, negsuc, suc, List, [], ◌∷◌, All, Bool, true, false, get_or, codes, refl, arith}
 use Rattle.std.specs.Prelude.{not}
 use Rattle.std.specs.List.{list_all}
 use Rattle.std.specs.Fmt.{decimal, signed_decimal}
 use Rattle.std.specs.Int.{w32, w64, to_be_bytes}
 use Rattle.std.specs.Str.{bytes_eq}
 use Rattle.std.specs.Str.Parse.{AllDigits}
-use Rattle.std.proofs.lemmas.Bool.{and_parts, ne_eqb}
+use Rattle.std.proofs.lemmas.Bool.{and_parts}
 use Rattle.std.proofs.lemmas.Fmt.{decimal_is_IsNumeral}
 use Rattle.std.proofs.lemmas.List.Elements.{All-nil, All-cons, All-from_get_or, All-get_or, All-weaker}
 use Rattle.std.proofs.lemmas.Slice.Eq.{bytes_eq-Decides}
@@ -20,7 +20,7 @@ use Rattle.prefs_model.specs.declared.pref_value.PrefValue.TheVariants.{Bool as 
 use Rattle.prefs_text.specs.ValueText.{plain_text, truth_text}
 use Rattle.prefs_text.proofs.Hexadecimals.{IsBytes-to_be_bytes}
 use Rattle.script_words.specs.Parts.{is_semicolon}
-use Rattle.script_words.specs.Words.{HasMark, HasNoSpace, IsWhole}
+use Rattle.script_words.specs.Words.{HasMark, IsWhole}
 use Rattle.script_words.proofs.PrintedWords.{not_same, whole_list, whole_quoted}
 
 -- a byte that neither marks nor ends a word, and is no semicolon

@@ -1,9 +1,9 @@
 -- The words of what is printed of a step, and that they are the step.
-use Rattle.std.proofs.Common.{◌≡◌, ◌≢◌, ◌∙◌, ◌<◌, ◌^◌, ℕ, ℤ, List, [], ◌∷◌, ◌++◌, All, true, false, codes, refl, sym, ap, subst, arith, append_assoc}
+use Rattle.std.proofs.Common.{◌≡◌, ℕ, ℤ, List, [], ◌∷◌, All, codes, refl, sym, subst, arith, append_assoc}
 use Rattle.std.specs.Fmt.{signed_decimal}
 use Rattle.std.specs.Int.{Width, w32, w64}
 use Rattle.std.specs.Int.RustNames.{FitsSigned}
-use Rattle.std.specs.List.{join_with_byte, list_all}
+use Rattle.std.specs.List.{join_with_byte}
 use Rattle.std.proofs.lemmas.List.Elements.{All-nil, All-cons}
 use Rattle.json.specs.Print.{escape, quoted}
 use Rattle.prefs_edit.specs.Laws.{IsStep}
@@ -22,7 +22,7 @@ use Rattle.prefs_text.proofs.Back.{reads_value_text}
 use Rattle.prefs_text.proofs.JsonBack.{read-quoted}
 use Rattle.prefs_text.proofs.KindNames.{one_cut}
 use Rattle.script_words.specs.Keys.{IsKeyWord}
-use Rattle.script_words.specs.PrintedSteps.{AmountFits}
+use Rattle.script_words.specs.ReadBack.{AmountFits}
 use Rattle.script_words.specs.StepKind.{kind_of_step, step_word}
 use Rattle.script_words.specs.StepWords.{AreKey, AreKeyAndAmount, AreKeyAndText, AreKeyAndValue, AreStepWords}
 use Rattle.script_words.specs.declared.step_kind.StepKind.{StepKind}

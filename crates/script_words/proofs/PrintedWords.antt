@@ -1,5 +1,5 @@
 -- What is printed of a text, a list or a scalar is one whole word.
-use Rattle.std.proofs.Common.{◌≡◌, ◌≢◌, ◌∙◌, ◌⊎◌, ◌<◌, ◌≤◌, ◌==◌, ◌&&◌, inl, inr, ℕ, ℤ, zero, suc, List, [], ◌∷◌, ◌++◌, All, Bool, true, false, cond, codes, refl, sym, ap, subst, arith, append_assoc, append-nil}
+use Rattle.std.proofs.Common.{◌≡◌, ◌≢◌, ◌∙◌, ◌<◌, ◌==◌, ◌&&◌, inl, inr, ℕ, zero, suc, List, [], ◌∷◌, ◌++◌, Bool, true, cond, codes, refl, sym, ap, arith, append-nil}
 use Rattle.std.specs.Prelude.{not}
 use Rattle.std.specs.List.{flat_map, join_by}
 use Rattle.std.proofs.lemmas.Bool.{and_parts, cases_lt, false≢true}

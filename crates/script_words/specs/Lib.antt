@@ -5,7 +5,7 @@ pub mod Names
 pub mod Numbers
 pub mod Parts
 pub mod Place
-pub mod PrintedSteps
+pub mod ReadBack
 pub mod StepKind
 pub mod StepWords
 pub mod Unknown

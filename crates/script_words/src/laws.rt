@@ -5,7 +5,7 @@ ghost use Rattle.prefs_edit.specs.Edit.{IsEdit};
 ghost use Rattle.prefs_edit.specs.declared.edit_step.EditStep.{EditStep};
 ghost use Rattle.prefs_text.specs.ValueText.{list_text};
 ghost use Rattle.script_words.specs.EditWords.{AreEditWords, HasUnknown};
-ghost use Rattle.script_words.specs.PrintedSteps.{IsTyped, ReadsBack};
+ghost use Rattle.script_words.specs.ReadBack.{IsTyped, ReadsBack};
 ghost use Rattle.script_words.specs.Words.{AreWords, IsWhole};
 
 /// Each line has words.
