@@ -32,6 +32,7 @@ pub use answer_line::AnswerLine;
 pub use answers::{answer_text, push_answer};
 pub use edits::edit_text;
 pub use entries::{entry_text, push_entry};
+pub use json_texts::quoted_text;
 pub use laws::{
     answers_are_in_line, edits_are_in_line, entries_are_in_line, one_value, texts_read_back,
 };
@@ -39,8 +40,8 @@ pub use maps::{map_text, push_map, push_pair};
 pub use name_list::NameList;
 pub use names::Names;
 pub use numbers::push_numbered;
-pub use read::parse_value;
-pub use scalars::plain_value;
+pub use read::{content_value, parse_value};
+pub use scalars::{int_of, long_of, plain_value};
 pub use seen::{AnswerLineSeen, AnswerSeen};
 pub use value_kind::ValueKind;
 pub use value_text_error::ValueTextError;

@@ -1,0 +1,18 @@
+pub mod AnyLemmas
+pub mod EditFaults
+pub mod OneEdit
+pub mod OneLine
+pub mod PartLemmas
+pub mod PrintedEdits
+pub mod PrintedScalars
+pub mod PrintedSteps
+pub mod PrintedWords
+pub mod ReadSoFar
+pub mod Refusals
+pub mod RowLemmas
+pub mod StepLists
+pub mod StepNames
+pub mod Unknowns
+mod Walk
+mod WalkIn
+mod WalkOut
