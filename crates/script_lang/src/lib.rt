@@ -1,0 +1,21 @@
+//! Scripts: which bytes are one, what they ask for, and why others are none. It stands on `script_words` for the words
+//! of a line and on `prefs_edit` for edits.
+//! Its one contract above is that of `parse_script`.
+#![tactic(auto)]
+
+mod line;
+mod lines;
+mod mode;
+mod run_line;
+mod script_error;
+mod series;
+mod session_plan;
+mod start;
+
+pub use line::Line;
+pub use mode::Mode;
+pub use run_line::{Act, RunLine};
+pub use script_error::{ScriptError, ScriptFault};
+pub use series::Series;
+pub use session_plan::SessionPlan;
+pub use start::Start;
