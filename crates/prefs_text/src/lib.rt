@@ -3,10 +3,14 @@
 //! `IsValueText`.
 #![tactic(auto)]
 
+mod answer;
+mod answer_line;
 mod json_texts;
 mod laws;
 mod lists;
 mod maps;
+mod name_list;
+mod names;
 mod quoted;
 mod read;
 mod scalars;
@@ -16,8 +20,12 @@ mod value_kind;
 mod value_text_error;
 mod values;
 
+pub use answer::Answer;
+pub use answer_line::AnswerLine;
 pub use laws::{one_value, texts_read_back};
 pub use maps::{map_text, push_pair};
+pub use name_list::NameList;
+pub use names::Names;
 pub use read::parse_value;
 pub use scalars::plain_value;
 pub use value_kind::ValueKind;
