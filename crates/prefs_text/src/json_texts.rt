@@ -10,8 +10,8 @@ use prefs_model::{Entries, PrefText, TextSet};
 use serde_json::Value;
 use std::alloc::Global;
 
-/// The text that a JSON string is.
-pub(crate) fn quoted_text(alloc: Global, json: &str) -> Result<PrefText, ValueTextError>
+/// The text that a JSON string is, with nothing round it. It never answers `UnknownKind`.
+pub fn quoted_text(alloc: Global, json: &str) -> Result<PrefText, ValueTextError>
     ensures ok { IfOk result (IsQuoted json.now) }
     ensures err { IfErr result (IsBadOrNoMemory ((text : List ℕ) → ¬ IsQuoted json.now text) ⊤) }
 {

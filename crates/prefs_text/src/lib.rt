@@ -22,11 +22,12 @@ mod values;
 
 pub use answer::Answer;
 pub use answer_line::AnswerLine;
+pub use json_texts::quoted_text;
 pub use laws::{one_value, texts_read_back};
 pub use maps::{map_text, push_pair};
 pub use name_list::NameList;
 pub use names::Names;
-pub use read::parse_value;
+pub use read::{content_value, parse_value};
 pub use scalars::plain_value;
 pub use value_kind::ValueKind;
 pub use value_text_error::ValueTextError;

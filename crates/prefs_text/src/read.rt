@@ -22,13 +22,13 @@ pub fn parse_value(alloc: Global, text: &str) -> Result<PrefValue, ValueTextErro
         });
     };
     match ValueKind::from_name(word) {
-        Some(kind) => read_content(alloc, kind, content),
+        Some(kind) => content_value(alloc, kind, content),
         None => Err(ValueTextError::UnknownKind),
     }
 }
 
-// The value of the kind that stands behind its name.
-fn read_content(alloc: Global, kind: ValueKind, content: &str) -> Result<PrefValue, ValueTextError>
+/// The value of the kind that this text is, which stands behind the kind's name. It never answers `UnknownKind`.
+pub fn content_value(alloc: Global, kind: ValueKind, content: &str) -> Result<PrefValue, ValueTextError>
     ensures ok { IfOk result (IsContentOf kind content.now) }
     ensures err { IfErr result (IsBadOrNoMemory ((value : PrefValue) → ¬ IsContentOf kind content.now value) (¬ IsScalar kind)) }
 {
