@@ -6,7 +6,9 @@
 mod line;
 mod lines;
 mod mode;
+mod name_table;
 mod run_line;
+mod script;
 mod script_error;
 mod series;
 mod session_plan;
@@ -15,6 +17,7 @@ mod start;
 pub use line::Line;
 pub use mode::Mode;
 pub use run_line::{Act, RunLine};
+pub use script::Script;
 pub use script_error::{ScriptError, ScriptFault};
 pub use series::Series;
 pub use session_plan::SessionPlan;
