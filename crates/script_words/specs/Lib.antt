@@ -1,0 +1,10 @@
+pub mod EditWords
+pub mod Faults
+pub mod Keys
+pub mod Names
+pub mod Numbers
+pub mod Parts
+pub mod StepKind
+pub mod StepWords
+pub mod Unknown
+pub mod Words
