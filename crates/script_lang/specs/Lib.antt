@@ -1,3 +1,10 @@
+pub mod Draft
+pub mod Faults
 pub mod Finding
 pub mod Lines
+pub mod LineWord
+pub mod Meaning
 pub mod NameTable
+pub mod Reading
+pub mod Rows
+pub mod Spelling

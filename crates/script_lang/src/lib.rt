@@ -3,7 +3,9 @@
 //! Its one contract above is that of `parse_script`.
 #![tactic(auto)]
 
+mod draft;
 mod line;
+mod line_word;
 mod lines;
 mod mode;
 mod name_table;
@@ -14,7 +16,9 @@ mod series;
 mod session_plan;
 mod start;
 
+pub use draft::Draft;
 pub use line::Line;
+pub use line_word::LineWord;
 pub use mode::Mode;
 pub use run_line::{Act, RunLine};
 pub use script::Script;
