@@ -1,2 +1,10 @@
+pub mod FileLemmas
+pub mod LeastFault
 pub mod LineLemmas
 pub mod NameLemmas
+pub mod NameRows
+pub mod RowFaults
+pub mod RunRows
+pub mod StartRows
+pub mod Tests
+pub mod WordLemmas

@@ -6,6 +6,7 @@ use Rattle.store_traits.specs.declared.ids.NodeId.{NodeId}
 use Rattle.script_lang.specs.declared.draft.Draft.{Draft}
 use Rattle.script_lang.specs.declared.line.Line.{Line}
 use Rattle.script_lang.specs.declared.line.Line.TheVariants.{Nothing, File, History, Node, Client, Run}
+use Rattle.script_lang.specs.declared.mode.Mode.{Mode}
 use Rattle.script_lang.specs.declared.run_line.RunLine.{RunLine}
 
 abbrev pub node_of : Line → Option (List ℕ)
@@ -33,8 +34,9 @@ run_of (Run line) = Some line
 run_of _ = None
 
 -- what the lines declare, each in their order; of the file and of the bound the first
-abbrev pub draft_of : List Line → Draft
-draft_of lines = record {
+abbrev pub draft_of : Mode → List Line → Draft
+draft_of mode lines = record {
+  mode = mode;
   nodes = filter_map node_of lines;
   clients = filter_map client_of lines;
   homes = filter_map home_of lines;

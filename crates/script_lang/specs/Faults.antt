@@ -9,7 +9,6 @@ use Rattle.script_words.specs.Names.{IsName, reserved}
 use Rattle.script_lang.specs.declared.draft.Draft.{Draft}
 use Rattle.script_lang.specs.declared.line_word.LineWord.{LineWord}
 use Rattle.script_lang.specs.declared.line_word.LineWord.TheVariants.{File, History, Node, Client, Go}
-use Rattle.script_lang.specs.declared.mode.Mode.{Mode}
 use Rattle.script_lang.specs.declared.mode.Mode.TheVariants.{Nodes}
 use Rattle.script_lang.specs.declared.script_error.ScriptFault.{ScriptFault}
 use Rattle.script_lang.specs.declared.script_error.ScriptFault.TheVariants as fault
@@ -68,38 +67,45 @@ FollowsNode draft = 0 < length draft.nodes
 abbrev pub FollowsOther : Draft → Type 0
 FollowsOther draft = 0 < length draft.lines
 
+-- by `nodes` the file is there already
+abbrev pub BarsFile : Draft → Type 0
+BarsFile draft = (draft.mode ≡ Nodes) ⊎ (FollowsNode draft ⊎ IsSome draft.file)
+
+abbrev pub BarsHistory : Draft → Type 0
+BarsHistory draft = FollowsNode draft ⊎ IsSome draft.entries
+
 -- `file` and `history` stand before the first node, each once at most, and `node` and `client` before the first line
--- of another sort that follows them; by `nodes` the file is there already
-abbrev pub StandsWrong : Mode → Draft → Row → Type 0
-StandsWrong mode draft (keyword File behind) = (mode ≡ Nodes) ⊎ (FollowsNode draft ⊎ IsSome draft.file)
-StandsWrong mode draft (keyword History behind) = FollowsNode draft ⊎ IsSome draft.entries
-StandsWrong mode draft (keyword Node behind) = FollowsOther draft
-StandsWrong mode draft (keyword Client behind) = FollowsOther draft
-StandsWrong mode draft _ = ⊥
+-- of another sort that follows them
+abbrev pub StandsWrong : Draft → Row → Type 0
+StandsWrong draft (keyword File behind) = BarsFile draft
+StandsWrong draft (keyword History behind) = BarsHistory draft
+StandsWrong draft (keyword Node behind) = FollowsOther draft
+StandsWrong draft (keyword Client behind) = FollowsOther draft
+StandsWrong draft _ = ⊥
 
 -- the faults that a line's words can have
-abbrev pub RowBreaks : Mode → Draft → Row → ScriptFault → Type 0
-RowBreaks mode draft row fault.UnknownWord = HasUnknownWord row
-RowBreaks mode draft row fault.BadValue = HasBadValue row
-RowBreaks mode draft row fault.UnknownName = HasUnknownName draft row
-RowBreaks mode draft row fault.NameTaken = TakesName draft row
-RowBreaks mode draft row fault.TooManyNames = IsOneTooMany draft row
-RowBreaks mode draft row fault.WrongPlace = StandsWrong mode draft row
-RowBreaks mode draft row _ = ⊥
+abbrev pub RowBreaks : Draft → Row → ScriptFault → Type 0
+RowBreaks draft row fault.UnknownWord = HasUnknownWord row
+RowBreaks draft row fault.BadValue = HasBadValue row
+RowBreaks draft row fault.UnknownName = HasUnknownName draft row
+RowBreaks draft row fault.NameTaken = TakesName draft row
+RowBreaks draft row fault.TooManyNames = IsOneTooMany draft row
+RowBreaks draft row fault.WrongPlace = StandsWrong draft row
+RowBreaks draft row _ = ⊥
 
 -- the same of the line, unless it is skipped
-pub record SomeRowBreaks (mode : Mode) (draft : Draft) (line : List ℕ) (broken : ScriptFault) : Type 0 where
+pub record SomeRowBreaks (draft : Draft) (line : List ℕ) (broken : ScriptFault) : Type 0 where
   pub read : ¬ IsSkipped line
   pub row : Row
   pub of_line : HasRow line row
-  pub breaks : RowBreaks mode draft row broken
+  pub breaks : RowBreaks draft row broken
 
 -- the line with this number, behind lines that made the draft, breaks this rule
-abbrev pub Breaks : Mode → Draft → ℕ → List ℕ → ScriptFault → Type 0
-Breaks mode draft number line fault.NotUtf8 = ¬ IsUtf8 line
-Breaks mode draft number line fault.LineTooLong = 4096 < length line
-Breaks mode draft number line fault.TooManyLines = 100000 < number
-Breaks mode draft number line broken = SomeRowBreaks mode draft line broken
+abbrev pub Breaks : Draft → ℕ → List ℕ → ScriptFault → Type 0
+Breaks draft number line fault.NotUtf8 = ¬ IsUtf8 line
+Breaks draft number line fault.LineTooLong = 4096 < length line
+Breaks draft number line fault.TooManyLines = 100000 < number
+Breaks draft number line broken = SomeRowBreaks draft line broken
 
 abbrev pub fault_number : ScriptFault → ℕ
 fault_number fault.NotUtf8 = 1

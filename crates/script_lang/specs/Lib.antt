@@ -1,6 +1,8 @@
 pub mod Draft
+pub mod FaultOfWords
 pub mod Faults
 pub mod Finding
+pub mod Growth
 pub mod Lines
 pub mod LineWord
 pub mod Meaning

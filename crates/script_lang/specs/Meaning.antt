@@ -14,14 +14,14 @@ use Rattle.script_lang.specs.Lines.{lines_of}
 use Rattle.script_lang.specs.Spelling.{LineSpells}
 
 -- the line with this number, behind lines that made the draft: it is spelled so, and breaks no rule
-pub record Says (mode : Mode) (draft : Draft) (number : ℕ) (line : List ℕ) (said : Line) : Type 0 where
+pub record Says (draft : Draft) (number : ℕ) (line : List ℕ) (said : Line) : Type 0 where
   pub spelled : LineSpells draft line said
-  pub keeps_rules : (fault : ScriptFault) → ¬ Breaks mode draft number line fault
+  pub keeps_rules : (fault : ScriptFault) → ¬ Breaks draft number line fault
 
 -- one by one, behind lines that said what stands before
 abbrev pub AllSay : Mode → List Line → List (List ℕ) → List Line → Type 0
 AllSay mode before [] [] = Unit {0}
-AllSay mode before (line ∷ lines) (said ∷ more) = Says mode (draft_of before) (length before + 1) line said × AllSay mode (before ++ said ∷ []) lines more
+AllSay mode before (line ∷ lines) (said ∷ more) = Says (draft_of mode before) (length before + 1) line said × AllSay mode (before ++ said ∷ []) lines more
 AllSay mode before _ _ = ⊥
 
 -- there is one session, in which nothing is planned to fail
@@ -37,7 +37,7 @@ script_of draft = record {
 pub record Means (mode : Mode) (bytes : List ℕ) (script : Script) : Type 0 where
   pub said : List Line
   pub each : AllSay mode [] (lines_of bytes) said
-  pub made : script ≡ script_of (draft_of said)
+  pub made : script ≡ script_of (draft_of mode said)
 
 -- the line with this number is the first faulty one, and this the least of its faults
 pub record Faulty (mode : Mode) (bytes : List ℕ) (number : ℕ) (fault : ScriptFault) : Type 0 where
@@ -48,7 +48,7 @@ pub record Faulty (mode : Mode) (bytes : List ℕ) (number : ℕ) (fault : Scrip
   pub lines : lines_of bytes ≡ front ++ line ∷ behind
   pub before : AllSay mode [] front said
   pub counted : number ≡ length front + 1
-  pub least : IsLeast (Breaks mode (draft_of said) number line) fault
+  pub least : IsLeast (Breaks (draft_of mode said) number line) fault
 
 -- why the bytes are no script, or want of memory
 abbrev pub IsRefusalOf : Mode → List ℕ → ScriptError → Type 0

@@ -1,5 +1,5 @@
 -- A line by its first word, and what may stand behind it.
-use Rattle.std.specs.Prelude.{ℕ, ◌≡◌, ◌≢◌, List, [], ◌∷◌, codes}
+use Rattle.std.specs.Prelude.{ℕ, ◌≡◌, ◌≢◌, ◌<◌, ◌⊎◌, List, [], ◌∷◌, length, codes}
 use Rattle.hex.specs.Hex.{encode_lower, IsBytes}
 use Rattle.folder_disk.specs.declared.main_read.MainRead.{MainRead}
 use Rattle.folder_disk.specs.declared.main_read.MainRead.TheVariants.{Absent, Bytes}
@@ -29,10 +29,14 @@ IsSkipped [] = Unit {0}
 IsSkipped (byte ∷ rest) = byte ≡ 35
 
 -- two digits for each byte, of which there is one at least
+pub record SpellsBytes (word bytes : List ℕ) : Type 0 where
+  pub some : 0 < length bytes
+  pub digits : word ≡ encode_lower bytes
+  pub are_bytes : IsBytes bytes
+
 abbrev pub IsFileWord : List ℕ → MainRead → Type 0
 IsFileWord word Absent = word ≡ codes "none"
-IsFileWord word (Bytes []) = word ≡ codes "empty"
-IsFileWord word (Bytes (byte ∷ bytes)) = (word ≡ encode_lower (byte ∷ bytes)) × IsBytes (byte ∷ bytes)
+IsFileWord word (Bytes bytes) = ((bytes ≡ []) × (word ≡ codes "empty")) ⊎ SpellsBytes word bytes
 
 -- `file HEX`, `file empty`, `file none`
 pub record IsFileRow (behind : List (List ℕ)) (main : MainRead) : Type 0 where

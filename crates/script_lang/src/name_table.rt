@@ -1,4 +1,4 @@
-ghost use Rattle.std.specs.Prelude.{◌≡◌, ◌+◌, ◌^◌, ◌<◌, [], ◌∷◌, ◌++◌, length, IfOk};
+ghost use Rattle.std.specs.Prelude.{◌≡◌, ◌↔◌, ◌^◌, ◌<◌, [], ◌∷◌, ◌++◌, length, Contains, IsTrue, IfOk};
 ghost use Rattle.script_lang.specs.Finding.{Finds};
 
 use hist_journal::PrefName;
@@ -48,6 +48,12 @@ impl NameTable {
         ensures { Finds self.now name.now result }
     {
         self.places.get(name).copied()
+    }
+
+    pub(crate) fn contains(&self, name: &str) -> bool
+        ensures { IsTrue result ↔ Contains self.now name.now }
+    {
+        self.find(name).is_some()
     }
 
     /// The table with one name more.

@@ -1,3 +1,5 @@
+use script_words::WordsError;
+use std::alloc::AllocError;
 use thiserror::Error;
 
 /// Why bytes are no script: the first faulty line, counted from 1, and the least of its faults.
@@ -40,4 +42,30 @@ pub enum ScriptFault {
     WrongPlace,
     #[error("out of memory")]
     NoMemory,
+}
+
+impl From<AllocError> for ScriptFault {
+    ghost use Rattle.script_lang.specs.declared.script_error.ScriptFault.TheVariants.{NoMemory};
+    ghost use Rattle.std.specs.Prelude.{◌≡◌};
+
+    ghost from_gives = { λ _ fault. fault ≡ NoMemory };
+
+    fn from(_refused: AllocError) -> ScriptFault {
+        ScriptFault::NoMemory
+    }
+}
+
+impl From<WordsError> for ScriptFault {
+    ghost use Rattle.script_lang.specs.FaultOfWords.{fault_of_words};
+    ghost use Rattle.std.specs.Prelude.{◌≡◌};
+
+    ghost from_gives = { λ told fault. fault ≡ fault_of_words told };
+
+    fn from(told: WordsError) -> ScriptFault {
+        match told {
+            WordsError::UnknownWord => ScriptFault::UnknownWord,
+            WordsError::BadValue => ScriptFault::BadValue,
+            WordsError::NoMemory => ScriptFault::NoMemory,
+        }
+    }
 }

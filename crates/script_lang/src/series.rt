@@ -1,4 +1,4 @@
-ghost use Rattle.std.specs.Prelude.{◌≡◌, [], ◌∷◌, ◌++◌, OnOk};
+ghost use Rattle.std.specs.Prelude.{◌≡◌, ◌==◌, [], length, ◌∷◌, ◌++◌, OnOk};
 
 use std::alloc::{AllocError, Global};
 use std::marker::Model;
@@ -45,6 +45,12 @@ impl<T> Series<T> {
         ensures { result.now ≡ self.now }
     {
         &self.items
+    }
+
+    pub fn is_empty(&self) -> bool
+        ensures { result ≡ (length self.now == 0) }
+    {
+        self.items.is_empty()
     }
 
     /// Adds a value at the end.
