@@ -28,7 +28,7 @@ pub use maps::{map_text, push_pair};
 pub use name_list::NameList;
 pub use names::Names;
 pub use read::{content_value, parse_value};
-pub use scalars::{decode_lower, plain_value};
+pub use scalars::{decode_lower, int_of, long_of, plain_value};
 pub use value_kind::ValueKind;
 pub use value_text_error::ValueTextError;
 pub use values::{push_value, value_text};

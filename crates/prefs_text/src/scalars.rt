@@ -37,19 +37,21 @@ fn truth_of(word: &str) -> Option<bool>
     }
 }
 
-fn int_of(word: &str) -> Option<i32>
+/// The number that prints as this word.
+pub fn int_of(word: &str) -> Option<i32>
     ensures some { IfSome result (λ z. word.now ≡ signed_decimal z) }
     ensures none { IfNone result ((z : ℤ) → FitsSigned w32 z → word.now ≢ signed_decimal z) }
 {
     i32::try_from(long_of(word)?).ok()
 }
 
-// Parsing accepts more than is printed, as `+1`, `01` or `-0`.
-fn long_of(word: &str) -> Option<i64>
+/// The number that prints as this word.
+pub fn long_of(word: &str) -> Option<i64>
     ensures fits { IfSome result (FitsSigned w64) }
     ensures some { IfSome result (λ z. word.now ≡ signed_decimal z) }
     ensures none { IfNone result ((z : ℤ) → FitsSigned w64 z → word.now ≢ signed_decimal z) }
 {
+    // Parsing accepts more than is printed, as `+1`, `01` or `-0`.
     let Ok(number) = word.parse::<i64>() else {
         return None;
     };

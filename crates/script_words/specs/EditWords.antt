@@ -1,5 +1,6 @@
 -- Which words are an edit, and why others are none.
 use Rattle.std.specs.Prelude.{ℕ, ◌≡◌, ◌≤◌, ◌⊎◌, List, [], ◌∷◌, Any, codes, length}
+use Rattle.std.specs.List.{AllZip}
 use Rattle.prefs_edit.specs.Edit.{IsEdit}
 use Rattle.prefs_edit.specs.declared.edit_step.EditStep.{EditStep}
 use Rattle.script_words.specs.Faults.{IsFault}
@@ -8,16 +9,10 @@ use Rattle.script_words.specs.StepWords.{AreStepWords}
 use Rattle.script_words.specs.Unknown.{HasUnknownWord}
 use Rattle.script_words.specs.declared.words_error.WordsError.{WordsError}
 
--- each part is the step at its place, and there are as many
-abbrev pub AreSteps : List (List (List ℕ)) → List EditStep → Type 0
-AreSteps [] [] = Unit {0}
-AreSteps (part ∷ parts) (step ∷ steps) = AreStepWords part step × AreSteps parts steps
-AreSteps _ _ = ⊥
-
 -- the words are the steps, at least two, with a word `;` between each two
 pub record AreSeveral (words : List (List ℕ)) (steps : List EditStep) : Type 0 where
   pub several : 2 ≤ length steps
-  pub each : AreSteps (parts_of words) steps
+  pub each : AllZip AreStepWords (parts_of words) steps
 
 -- the words are `many` and several steps
 pub record AreManySteps (words : List (List ℕ)) (steps : List EditStep) : Type 0 where

@@ -4,6 +4,7 @@ pub mod Keys
 pub mod Names
 pub mod Numbers
 pub mod Parts
+pub mod Place
 pub mod StepKind
 pub mod StepWords
 pub mod Unknown

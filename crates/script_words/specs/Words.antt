@@ -8,15 +8,15 @@ texts_at words = map (λ word. word.now) words
 
 -- what stands between the quotes of a quoted text: a quote only right behind a backslash, which takes the byte behind it
 pub data IsQuotable : List ℕ → Type 0 where
-  none : IsQuotable []
-  byte : {text : List ℕ} (byte : ℕ) (rest : List ℕ) → text ≡ byte ∷ rest → byte ≢ 34 → byte ≢ 92 → IsQuotable rest → IsQuotable text
-  escape : {text : List ℕ} (escaped : ℕ) (rest : List ℕ) → text ≡ 92 ∷ escaped ∷ rest → IsQuotable rest → IsQuotable text
+  nothing_quoted : IsQuotable []
+  quoted_byte : {text : List ℕ} (byte : ℕ) (rest : List ℕ) → text ≡ byte ∷ rest → byte ≢ 34 → byte ≢ 92 → IsQuotable rest → IsQuotable text
+  quoted_escape : {text : List ℕ} (escaped : ℕ) (rest : List ℕ) → text ≡ 92 ∷ escaped ∷ rest → IsQuotable rest → IsQuotable text
 
 -- what stands between the brackets of a list: quotes only round quoted texts, and a closing bracket only within them
 pub data IsListable : List ℕ → Type 0 where
-  none : IsListable []
-  byte : {text : List ℕ} (byte : ℕ) (rest : List ℕ) → text ≡ byte ∷ rest → byte ≢ 34 → byte ≢ 93 → IsListable rest → IsListable text
-  quoted : {text : List ℕ} (inner rest : List ℕ) → text ≡ codes "\"" ++ (inner ++ (codes "\"" ++ rest)) → IsQuotable inner → IsListable rest → IsListable text
+  nothing_listed : IsListable []
+  listed_byte : {text : List ℕ} (byte : ℕ) (rest : List ℕ) → text ≡ byte ∷ rest → byte ≢ 34 → byte ≢ 93 → IsListable rest → IsListable text
+  listed_text : {text : List ℕ} (inner rest : List ℕ) → text ≡ codes "\"" ++ (inner ++ (codes "\"" ++ rest)) → IsQuotable inner → IsListable rest → IsListable text
 
 -- a quoted text, with its closing quote
 pub record IsQuotedText (text : List ℕ) : Type 0 where

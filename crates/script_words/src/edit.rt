@@ -1,8 +1,10 @@
 ghost use Rattle.std.specs.Prelude.{List, IfOk, IfErr};
+ghost use Rattle.std.specs.List.{AllZip};
 ghost use Rattle.prefs_edit.specs.declared.edit_step.EditStep.{EditStep};
-ghost use Rattle.script_words.specs.EditWords.{AreEditWords, AreSeveral, AreSteps, IsEditFault, IsOnlyStep, SomeHasUnknownWord};
+ghost use Rattle.script_words.specs.EditWords.{AreEditWords, AreSeveral, IsEditFault, IsOnlyStep, SomeHasUnknownWord};
 ghost use Rattle.script_words.specs.Faults.{IsBadOrNoMemory, IsFault};
 ghost use Rattle.script_words.specs.Parts.{parts_at};
+ghost use Rattle.script_words.specs.StepWords.{AreStepWords};
 ghost use Rattle.script_words.specs.Unknown.{HasUnknownWord};
 ghost use Rattle.script_words.specs.Words.{texts_at};
 
@@ -59,8 +61,8 @@ fn many_steps(alloc: Global, words: &[&str]) -> Result<Vec<EditStep>, WordsError
 
 /// The steps that the parts are, one each.
 fn steps_of(alloc: Global, parts: &[&[&str]]) -> Result<Vec<EditStep>, WordsError>
-    ensures ok { IfOk result (λ steps. AreSteps (parts_at parts.now) steps.items) }
-    ensures err { IfErr result (IsBadOrNoMemory ((steps : List EditStep) → ¬ AreSteps (parts_at parts.now) steps)) }
+    ensures ok { IfOk result (λ steps. AllZip AreStepWords (parts_at parts.now) steps.items) }
+    ensures err { IfErr result (IsBadOrNoMemory ((steps : List EditStep) → ¬ AllZip AreStepWords (parts_at parts.now) steps)) }
 {
     let mut steps = Vec::new(alloc);
     for part in parts {

@@ -13,7 +13,7 @@ pub fn line_words<'a>(alloc: Global, line: &'a str) -> Result<Vec<&'a str>, Allo
     let mut start = 0;
     let mut place = Place::Start;
     for (at, byte) in line.as_bytes().iter().enumerate() {
-        if *byte == b' ' && place.ends_at_space() {
+        if place.ends_at(*byte) {
             words.push(&line[start..at])?;
             start = at + 1;
             place = Place::Start;

@@ -20,40 +20,43 @@ pub fn is_name(word: &str) -> bool
     }
 }
 
+/// The words that stand in the tables of a script's lines: those that begin a line or say more in it, the calls of a
+/// client, and the calls of the devices.
+const RESERVED: [&str; 29] = [
+    "file",
+    "empty",
+    "none",
+    "history",
+    "handler",
+    "legacy",
+    "migrate",
+    "copy",
+    "rename",
+    "node",
+    "client",
+    "on",
+    "fault",
+    "fuse",
+    "die",
+    "go",
+    "stop",
+    "update",
+    "read",
+    "flow",
+    "post",
+    "restart",
+    "read_main",
+    "create",
+    "append",
+    "sync",
+    "sync_folder",
+    "legacy_read",
+    "legacy_clear",
+];
+
 /// Whether the word stands in the tables of lines, so that nothing can be named by it.
 pub fn is_reserved(word: &str) -> bool
     ensures { IsTrue result ↔ Contains reserved word.now }
 {
-    matches!(
-        word,
-        "file"
-            | "empty"
-            | "none"
-            | "history"
-            | "handler"
-            | "legacy"
-            | "migrate"
-            | "copy"
-            | "rename"
-            | "node"
-            | "client"
-            | "on"
-            | "fault"
-            | "fuse"
-            | "die"
-            | "go"
-            | "stop"
-            | "update"
-            | "read"
-            | "flow"
-            | "post"
-            | "restart"
-            | "read_main"
-            | "create"
-            | "append"
-            | "sync"
-            | "sync_folder"
-            | "legacy_read"
-            | "legacy_clear"
-    )
+    RESERVED.iter().any(|taken| *taken == word)
 }

@@ -1,4 +1,4 @@
-ghost use Rattle.std.specs.Prelude.{◌≡◌, ◌↔◌, ◌⊎◌, IsTrue};
+ghost use Rattle.std.specs.Prelude.{◌≡◌, ◌↔◌, Bool, true, IsTrue};
 
 /// Where in a word a byte stands.
 #[derive(Clone, Copy)]
@@ -20,13 +20,19 @@ pub(crate) enum Place {
 }
 
 impl Place {
-    /// Whether a space ends the word here.
-    pub(crate) fn ends_at_space(self) -> bool {
-        matches!(self, Place::Start | Place::Outside)
+    ghost use Rattle.script_words.specs.Place.{after, ends_at_space};
+
+    /// Whether this byte, which is a space then, ends the word.
+    pub(crate) fn ends_at(self, byte: u8) -> bool
+        ensures { IsTrue result ↔ (byte ≡ 32) × (ends_at_space self ≡ true) }
+    {
+        byte == b' ' && matches!(self, Place::Start | Place::Outside)
     }
 
     /// The place behind this byte.
-    pub(crate) fn after(self, byte: u8) -> Place {
+    pub(crate) fn after(self, byte: u8) -> Place
+        ensures { result ≡ after self byte }
+    {
         match (self, byte) {
             (Place::Start, b'"') => Place::Quoted,
             (Place::Start, b'[') => Place::Listed,

@@ -9,7 +9,7 @@ ghost use Rattle.script_words.specs.Words.{texts_at};
 use crate::WordsError;
 use crate::texts::{key_of, text_of};
 use prefs_model::{PrefKey, PrefText, PrefValue};
-use prefs_text::{ValueKind, content_value, plain_value};
+use prefs_text::{ValueKind, content_value, int_of, long_of};
 use std::alloc::Global;
 
 /// `KEY`
@@ -63,10 +63,11 @@ pub(crate) fn key_and_int(alloc: Global, words: &[&str]) -> Result<(PrefKey, i32
     let [key, amount] = words else {
         return Err(WordsError::BadValue);
     };
-    let Some(PrefValue::Int(amount)) = plain_value(ValueKind::Int, amount) else {
+    let Some(amount) = int_of(amount) else {
         return Err(WordsError::BadValue);
     };
-    Ok((key_of(alloc, key)?, amount))
+    let key = key_of(alloc, key)?;
+    Ok((key, amount))
 }
 
 /// `KEY N`, where N is a Long.
@@ -77,8 +78,9 @@ pub(crate) fn key_and_long(alloc: Global, words: &[&str]) -> Result<(PrefKey, i6
     let [key, amount] = words else {
         return Err(WordsError::BadValue);
     };
-    let Some(PrefValue::Long(amount)) = plain_value(ValueKind::Long, amount) else {
+    let Some(amount) = long_of(amount) else {
         return Err(WordsError::BadValue);
     };
-    Ok((key_of(alloc, key)?, amount))
+    let key = key_of(alloc, key)?;
+    Ok((key, amount))
 }
