@@ -1,8 +1,13 @@
+pub mod EditLaw
 pub mod FileLemmas
+pub mod GrowthLemmas
 pub mod LeastFault
 pub mod LineLemmas
 pub mod NameLemmas
 pub mod NameRows
+pub mod OneRow
+pub mod ReadLines
+pub mod ReadSoFar
 pub mod RowFaults
 pub mod RunRows
 pub mod StartRows

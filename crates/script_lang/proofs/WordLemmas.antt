@@ -1,5 +1,6 @@
 -- What stands behind a line's first word, by how many words there are.
-use Rattle.std.proofs.Common.{◌≡◌, ◌+◌, ◌<◌, ◌≤◌, ℕ, List, [], ◌∷◌, length, get_or, Bor, refl, arith, ap}
+use Rattle.std.proofs.Common.{◌≡◌, ◌+◌, ◌-◌, ◌<◌, ◌≤◌, ℕ, List, [], ◌∷◌, length, get_or, take, drop, sub-one, Bor, refl, arith}
+use Rattle.std.proofs.Math.Seq.{take-length}
 use Rattle.script_words.specs.Words.{texts_at}
 
 -- where there is no word
@@ -23,3 +24,10 @@ three_texts (word ∷ []) least most = absurd (omega arith)
 three_texts (word ∷ other ∷ []) least most = absurd (omega arith)
 three_texts (word ∷ other ∷ third ∷ []) least most = refl
 three_texts (word ∷ other ∷ third ∷ fourth ∷ more) least most = absurd (omega arith)
+
+-- a first word, and the words behind it
+pub first_text : (words : List (Bor (List ℕ))) → 1 ≤ length words → texts_at words ≡ (get_or words 0 no_word).now ∷ texts_at (take (length words - 1) (drop 1 words))
+first_text [] least = absurd (omega arith)
+first_text (word ∷ words) least =
+    let rest : take (length (word ∷ words) - 1) (drop 1 (word ∷ words)) ≡ words = rw sub-one (take-length words) in
+    rw rest refl

@@ -1,6 +1,8 @@
 use crate::name_table::NameTable;
-use crate::{Line, Mode, RunLine, Series};
+use crate::start_rows::MAX_ENTRIES;
+use crate::{Line, Mode, RunLine, Script, Series, SessionPlan, Start};
 use folder_disk::MainRead;
+use prefs_text::Names;
 use script_words::is_reserved;
 use std::alloc::{AllocError, Global};
 use store_traits::NodeId;
@@ -25,6 +27,7 @@ impl Draft {
     ghost use Rattle.script_lang.specs.Draft.{draft_of};
     ghost use Rattle.script_lang.specs.Faults.{IsTaken, BarsFile, BarsHistory, FollowsNode, FollowsOther};
     ghost use Rattle.script_lang.specs.Growth.{HasPlace, draft_with};
+    ghost use Rattle.script_lang.specs.Meaning.{script_of};
 
     pub(crate) fn new(alloc: Global, mode: Mode) -> Draft
         ensures { result ≡ draft_of mode [] }
@@ -108,6 +111,33 @@ impl Draft {
             file,
             entries,
             lines,
+        })
+    }
+
+    /// The script that the lines make, all in one session.
+    pub(crate) fn into_script(self, alloc: Global) -> Result<Script, AllocError>
+        ensures { IfOk result (λ script. script ≡ script_of self) }
+    {
+        let plan = SessionPlan {
+            folder_faults: Series::new(alloc),
+            fuse: None,
+            deaths: Series::new(alloc),
+            lines: self.lines,
+            stop: None,
+        };
+        let sessions = vec![in alloc; plan]?;
+        Ok(Script {
+            names: Names {
+                nodes: self.nodes.into_list(),
+                clients: self.clients.into_list(),
+            },
+            homes: self.homes,
+            start: Start {
+                file: self.file.unwrap_or(MainRead::Absent),
+                entries: self.entries.unwrap_or(MAX_ENTRIES),
+                replace: false,
+            },
+            sessions: Series::from_vec(sessions),
         })
     }
 }
