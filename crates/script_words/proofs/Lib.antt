@@ -1,7 +1,13 @@
 pub mod AnyLemmas
+pub mod OneEdit
 pub mod OneLine
 pub mod PartLemmas
 pub mod ReadSoFar
+pub mod Refusals
+pub mod RowLemmas
+pub mod StepLists
+pub mod StepNames
+pub mod Unknowns
 mod Walk
 mod WalkIn
 mod WalkOut

@@ -26,9 +26,13 @@ pub record IsOnlyStep (words : List (List ℕ)) (steps : List EditStep) : Type 0
   pub alone : steps ≡ step ∷ []
   pub is_step : AreStepWords words step
 
+-- the words are these steps
+abbrev pub SpellSteps : List (List ℕ) → List EditStep → Type 0
+SpellSteps words steps = IsOnlyStep words steps ⊎ AreManySteps words steps
+
 -- the words are this edit: its steps are at most 16, and weigh at most 65,536
 pub record AreEditWords (words : List (List ℕ)) (edit : List EditStep) : Type 0 where
-  pub spelled : IsOnlyStep words edit ⊎ AreManySteps words edit
+  pub spelled : SpellSteps words edit
   pub is_edit : IsEdit edit
 
 -- one of the parts between words `;` has an unknown word

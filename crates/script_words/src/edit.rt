@@ -1,7 +1,7 @@
 ghost use Rattle.std.specs.Prelude.{List, IfOk, IfErr};
 ghost use Rattle.std.specs.List.{AllZip};
 ghost use Rattle.prefs_edit.specs.declared.edit_step.EditStep.{EditStep};
-ghost use Rattle.script_words.specs.EditWords.{AreEditWords, AreSeveral, IsEditFault, IsOnlyStep, SomeHasUnknownWord};
+ghost use Rattle.script_words.specs.EditWords.{AreEditWords, AreSeveral, HasUnknown, IsEditFault, IsOnlyStep, SomeHasUnknownWord, SpellSteps};
 ghost use Rattle.script_words.specs.Faults.{IsBadOrNoMemory, IsFault};
 ghost use Rattle.script_words.specs.Parts.{parts_at};
 ghost use Rattle.script_words.specs.StepWords.{AreStepWords};
@@ -20,11 +20,20 @@ pub fn edit_of(alloc: Global, words: &[&str]) -> Result<Edit, WordsError>
     ensures ok { IfOk result (AreEditWords (texts_at words.now)) }
     ensures err { IfErr result (IsEditFault (texts_at words.now)) }
 {
-    let steps = match words {
-        [name, behind @ ..] if *name == "many" => many_steps(alloc, behind)?,
-        _ => only_step(alloc, words)?,
-    };
+    let steps = steps_of(alloc, words)?;
     Edit::new(steps).map_err(|_| WordsError::BadValue)
+}
+
+/// The steps that the words are, however many.
+fn steps_of(alloc: Global, words: &[&str]) -> Result<Vec<EditStep>, WordsError>
+    ensures ok { IfOk result (λ steps. SpellSteps (texts_at words.now) steps.items) }
+    ensures err { IfErr result (IsFault (HasUnknown (texts_at words.now))
+        ((steps : List EditStep) → ¬ SpellSteps (texts_at words.now) steps)) }
+{
+    match words {
+        [name, behind @ ..] if *name == "many" => many_steps(alloc, behind),
+        _ => only_step(alloc, words),
+    }
 }
 
 /// The one step that the words are.
@@ -56,11 +65,11 @@ fn many_steps(alloc: Global, words: &[&str]) -> Result<Vec<EditStep>, WordsError
     if parts.len() < 2 {
         return Err(WordsError::BadValue);
     }
-    steps_of(alloc, &parts)
+    steps_of_parts(alloc, &parts)
 }
 
 /// The steps that the parts are, one each.
-fn steps_of(alloc: Global, parts: &[&[&str]]) -> Result<Vec<EditStep>, WordsError>
+fn steps_of_parts(alloc: Global, parts: &[&[&str]]) -> Result<Vec<EditStep>, WordsError>
     ensures ok { IfOk result (λ steps. AllZip AreStepWords (parts_at parts.now) steps.items) }
     ensures err { IfErr result (IsBadOrNoMemory ((steps : List EditStep) → ¬ AllZip AreStepWords (parts_at parts.now) steps)) }
 {
