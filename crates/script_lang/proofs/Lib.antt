@@ -1,6 +1,6 @@
-pub mod EditLaw
 pub mod FileLemmas
 pub mod GrowthLemmas
+pub mod KeepsLemmas
 pub mod LeastFault
 pub mod LineLemmas
 pub mod NameLemmas

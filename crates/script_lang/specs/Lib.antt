@@ -3,6 +3,7 @@ pub mod FaultOfWords
 pub mod Faults
 pub mod Finding
 pub mod Growth
+pub mod Keeps
 pub mod Lines
 pub mod LineWord
 pub mod Meaning

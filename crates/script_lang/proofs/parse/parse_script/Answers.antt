@@ -1,5 +1,6 @@
-use Rattle.std.proofs.Common.{length, arith, rules}
+use Rattle.std.proofs.Common.{sym, ◌∙◌}
 use Rattle.script_lang.proofs.ReadSoFar.{all_read, read_more}
+use Rattle.script_lang.proofs.Tests.{nothing_left}
 use Rattle.script_lang.proofs.parse.parse_script.Goals as goal
 
 pub loop-rest-preserved : goal.loop-rest-preserved
@@ -9,4 +10,5 @@ loop-rest-preserved c =
 
 pub returns-clause-ok : goal.returns-clause-ok
 returns-clause-ok c =
-    all_read c.args.mode c.args.bytes.now c.loop-rest.number c.loop-rest.rest.now c.loop-rest.draft c.loop-rest.invariant ? c.in-Ok.script ?
+    all_read c.args.mode c.args.bytes.now c.loop-rest.number c.loop-rest.rest.now c.loop-rest.draft c.loop-rest.invariant
+      (nothing_left c.loop-rest.rest.now (sym c.is_empty.ensures ∙ c.loop-rest-test.false)) c.in-Ok.script c.in-Ok.ensures

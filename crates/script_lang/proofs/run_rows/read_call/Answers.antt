@@ -1,7 +1,7 @@
 use Rattle.std.proofs.Common.{◌≡◌, get_or}
 use Rattle.std.specs.Prelude.{codes}
 use Rattle.std.proofs.lemmas.Result.{err_from_is_err_and}
-use Rattle.script_lang.proofs.EditLaw.{edits_known}
+use Rattle.script_words.proofs.Unknowns.{edit_known}
 use Rattle.script_lang.proofs.RunRows.{edit_fault, update_unknown, update_said}
 use Rattle.script_lang.proofs.Tests.{same_text}
 use Rattle.script_lang.proofs.WordLemmas.{first_text, no_word}
@@ -18,10 +18,10 @@ pub returns-in_default-find : goal.returns-in_default-find
 returns-in_default-find c =
     let update : (get_or c.args.behind.now 0 no_word).now ≡ codes "update" = same_text _ _ _ c.ne.ensures c.if-ne.false in
     rw (first_text c.args.behind.now c.in-len1-up.len_at_least, update)
-    (update_unknown c.args.draft.now c.args.first.now (c.is_name.ensures.0 c.if-not-is_name.false) _ c.in_ok-edit.edit c.in_ok-edit.ensures.ok (edits_known _ _ c.in_ok-edit.ensures.ok) c.in_default-find.ensures)
+    (update_unknown c.args.draft.now c.args.first.now (c.is_name.ensures.0 c.if-not-is_name.false) _ c.in_ok-edit.edit c.in_ok-edit.ensures.ok (edit_known _ _ c.in_ok-edit.ensures.ok) c.in_default-find.ensures)
 
 pub returns : goal.returns
 returns c =
     let update : (get_or c.args.behind.now 0 no_word).now ≡ codes "update" = same_text _ _ _ c.ne.ensures c.if-ne.false in
     rw (first_text c.args.behind.now c.in-len1-up.len_at_least, update)
-    (update_said c.args.draft.now c.args.first.now (c.is_name.ensures.0 c.if-not-is_name.false) _ c.in_ok-edit.edit c.in_ok-edit.ensures.ok (edits_known _ _ c.in_ok-edit.ensures.ok) (record { 0 = c.in-Some.client }) c.in-Some.ensures)
+    (update_said c.args.draft.now c.args.first.now (c.is_name.ensures.0 c.if-not-is_name.false) _ c.in_ok-edit.edit c.in_ok-edit.ensures.ok (edit_known _ _ c.in_ok-edit.ensures.ok) (record { 0 = c.in-Some.client }) c.in-Some.ensures)
