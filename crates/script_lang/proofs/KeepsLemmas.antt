@@ -187,17 +187,20 @@ fewer_found : {X : Type 0} (find : Line → Option X) (lines : List Line) → le
 fewer_found find [] = lit≤ tt
 fewer_found find (line ∷ lines) = at_line (find line) (filter_map find lines) lines (fewer_found find lines)
 
+pub keeps_more : (mode : Mode) (before : List Line) (line : List ℕ) (said : Line) → KeepsDraft (draft_of mode before) → Says (draft_of mode before) (length before + 1) line said → KeepsDraft (draft_of mode (before ++ said ∷ []))
+keeps_more mode before line said keeps says =
+    let fewer : length (filter_map run_of before) ≤ length before = fewer_found run_of before in
+    let place = says_has_place (draft_of mode before) (length before + 1) line said says in
+    let P : Draft → Type 0 = KeepsDraft in
+    subst P (sym (draft_grows mode before said place)) (draft_keeps (draft_of mode before) (length before + 1) line keeps said says (omega arith))
+
 pub lines_keep : (mode : Mode) (before : List Line) (lines : List (List ℕ)) (said : List Line) → AllSay mode before lines said → KeepsDraft (draft_of mode before) → KeepsDraft (draft_of mode (before ++ said))
 lines_keep mode before [] [] each keeps = rw (append-nil before) keeps
 lines_keep mode before [] (s ∷ said) each keeps = absurd each
 lines_keep mode before (line ∷ lines) [] each keeps = absurd each
 lines_keep mode before (line ∷ lines) (s ∷ said) each keeps =
-    let fewer : length (filter_map run_of before) ≤ length before = fewer_found run_of before in
-    let place = says_has_place (draft_of mode before) (length before + 1) line s each.0 in
-    let next = draft_keeps (draft_of mode before) (length before + 1) line keeps s each.0 (omega arith) in
-    let P : Draft → Type 0 = KeepsDraft in
-    let Q : List Line → Type 0 = λ all. KeepsDraft (draft_of mode all) in
-    subst Q (append_assoc before (s ∷ []) said) (lines_keep mode (before ++ s ∷ []) lines said each.1 (subst P (sym (draft_grows mode before s place)) next))
+    let P : List Line → Type 0 = λ all. KeepsDraft (draft_of mode all) in
+    subst P (append_assoc before (s ∷ []) said) (lines_keep mode (before ++ s ∷ []) lines said each.1 (keeps_more mode before line s keeps each.0))
 
 within_entries : (o : Option ℕ) → IfSome o KeepsEntries → KeepsEntries (unwrap_or o 100000)
 within_entries None keeps = record { some = lit≤ tt; few = lit≤ tt }

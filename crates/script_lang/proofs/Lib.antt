@@ -1,10 +1,13 @@
 pub mod FileLemmas
 pub mod GrowthLemmas
 pub mod KeepsLemmas
+pub mod ScriptLaws
 pub mod LeastFault
 pub mod LineLemmas
 pub mod NameLemmas
 pub mod NameRows
+pub mod OneFile
+pub mod OneMeaning
 pub mod OneRow
 pub mod ReadLines
 pub mod ReadSoFar

@@ -4,6 +4,7 @@
 #![tactic(auto)]
 
 mod draft;
+mod laws;
 mod line;
 mod line_word;
 mod lines;
@@ -22,6 +23,7 @@ mod session_plan;
 mod start;
 
 pub use draft::Draft;
+pub use laws::{one_fault, one_script, scripts_have_no_fault, scripts_keep_their_rules};
 pub use line::Line;
 pub use line_word::LineWord;
 pub use mode::Mode;
