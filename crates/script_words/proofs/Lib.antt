@@ -1,4 +1,5 @@
 pub mod AnyLemmas
+pub mod EditFaults
 pub mod OneEdit
 pub mod OneLine
 pub mod PartLemmas

@@ -1,20 +1,17 @@
 -- Words are one edit at most.
-use Rattle.std.proofs.Common.{◌≡◌, ◌≢◌, ◌∙◌, ◌⊎◌, ◌<◌, ◌^◌, inl, inr, ℕ, ℤ, zero, suc, List, [], ◌∷◌, ◌++◌, Some, length, get_or, refl, sym, ap, subst, arith, codes}
+use Rattle.std.proofs.Common.{◌≡◌, ◌∙◌, inl, inr, ℕ, ℤ, List, [], ◌∷◌, ◌++◌, refl, sym, ap, subst, arith, codes}
 use Rattle.std.specs.Fmt.{signed_decimal}
 use Rattle.std.specs.Int.{Width, w32, w64}
 use Rattle.std.specs.Int.RustNames.{FitsSigned}
 use Rattle.std.specs.List.{AllZip}
-use Rattle.std.specs.Prelude.{Any}
 use Rattle.std.proofs.lemmas.Fmt.{signed_decimal_injective}
 use Rattle.prefs_edit.specs.declared.edit_step.EditStep.{EditStep}
 use Rattle.prefs_edit.specs.declared.edit_step.EditStep.TheVariants.{Set, Remove, Clear, AddInt, AddLong, Toggle, InsertText, RemoveText, Require}
 use Rattle.prefs_model.specs.declared.pref_value.PrefValue.{PrefValue}
 use Rattle.prefs_text.specs.Content.{IsContent, IsQuoted}
 use Rattle.prefs_text.specs.ValueKind.{kind_name, kind_of}
-use Rattle.prefs_text.specs.declared.value_kind.ValueKind.{ValueKind}
-use Rattle.prefs_text.proofs.KindNames as kinds
 use Rattle.prefs_text.proofs.OneValue.{one_value}
-use Rattle.script_words.specs.EditWords.{AreEditWords, AreManySteps, IsOnlyStep, SpellSteps}
+use Rattle.script_words.specs.EditWords.{AreEditWords, AreManySteps, SpellSteps}
 use Rattle.script_words.specs.Keys.{IsKeyWord}
 use Rattle.script_words.specs.Parts.{parts_of}
 use Rattle.script_words.specs.StepKind.{kind_of_step, step_word}

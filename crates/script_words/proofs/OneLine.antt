@@ -1,13 +1,12 @@
 -- A line has one list of words.
-use Rattle.std.proofs.Common.{◌≡◌, ◌≢◌, ◌∙◌, ◌⊎◌, inl, inr, ◌==◌, ℕ, List, [], ◌∷◌, ◌++◌, All, Bool, true, false, refl, sym, ap, subst, arith, append_assoc, append-nil}
+use Rattle.std.proofs.Common.{◌≡◌, ◌≢◌, ◌∙◌, ◌⊎◌, inl, inr, ℕ, List, [], ◌∷◌, ◌++◌, All, true, refl, sym, ap, subst, append_assoc, append-nil}
 use Rattle.std.specs.List.{join_with_byte}
 use Rattle.std.proofs.lemmas.Bool.Decides.{eqb_tells}
 use Rattle.std.proofs.lemmas.List.Elements.{All-nil, All-cons, All-head, All-tail}
-use Rattle.script_words.specs.Place.{after, ends_at_space}
+use Rattle.script_words.specs.Place.{ends_at_space}
 use Rattle.script_words.specs.Words.{AreWords, IsWhole, IsUnclosed}
-use Rattle.script_words.specs.declared.place.Place.{Place}
 use Rattle.script_words.specs.declared.place.Place.TheVariants.{Start}
-use Rattle.script_words.proofs.Walk.{walk, walk-append, Stays, Stays-append, one_end, no_longer}
+use Rattle.script_words.proofs.Walk.{walk, Stays, Stays-append, one_end, no_longer}
 use Rattle.script_words.proofs.WalkIn.{whole_ends}
 use Rattle.script_words.proofs.WalkOut.{whole_word, unclosed_word, unclosed_stays, within_or_ends}
 

@@ -1,5 +1,5 @@
 -- Rows whose words cannot be read.
-use Rattle.std.proofs.Common.{◌≡◌, ◌<◌, ◌≤◌, ℕ, List, [], ◌∷◌, length, get_or, sym, subst, arith}
+use Rattle.std.proofs.Common.{◌≡◌, ◌<◌, ◌≤◌, ℕ, List, [], ◌∷◌, length, get_or, subst, arith}
 use Rattle.std.specs.Borrow.{Bor}
 use Rattle.prefs_text.specs.Content.{IsQuoted}
 use Rattle.script_words.specs.StepWords.{AreKeyAndText}

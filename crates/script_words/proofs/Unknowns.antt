@@ -1,17 +1,15 @@
 -- Words with an unknown word, and words that are steps.
-use Rattle.std.proofs.Common.{◌≡◌, ◌≢◌, ◌∙◌, ◌⊎◌, ◌<◌, ◌≤◌, inl, inr, ℕ, zero, suc, List, [], ◌∷◌, length, get_or, refl, sym, ap, subst, arith, codes}
+use Rattle.std.proofs.Common.{◌≡◌, ◌∙◌, ◌⊎◌, ◌<◌, inl, inr, ℕ, zero, suc, List, [], ◌∷◌, length, get_or, sym, subst, arith, codes}
 use Rattle.std.specs.List.{AllZip}
-use Rattle.std.specs.Prelude.{Any}
 use Rattle.prefs_edit.specs.declared.edit_step.EditStep.{EditStep}
 use Rattle.prefs_edit.specs.declared.edit_step.EditStep.TheVariants as step
 use Rattle.prefs_model.specs.declared.pref_value.PrefValue.{PrefValue}
 use Rattle.prefs_text.specs.ValueKind.{kind_name, kind_of}
-use Rattle.script_words.specs.EditWords.{AreEditWords, AreManySteps, HasUnknown, HasUnknownPart, IsOnlyStep, SomeHasUnknownWord, SpellSteps}
+use Rattle.script_words.specs.EditWords.{AreEditWords, HasUnknown, SomeHasUnknownWord, SpellSteps}
 use Rattle.script_words.specs.Parts.{parts_of}
 use Rattle.script_words.specs.StepKind.{kind_of_step, step_word}
 use Rattle.script_words.specs.StepWords.{AreKeyAndValue, AreStepWords, Follow}
-use Rattle.script_words.specs.Unknown.{HasUnknownKind, HasUnknownWord, NamesNoStep, TakesKind}
-use Rattle.script_words.specs.declared.step_kind.StepKind.{StepKind}
+use Rattle.script_words.specs.Unknown.{HasUnknownKind, HasUnknownWord}
 use Rattle.script_words.specs.declared.step_kind.StepKind.TheVariants.{Set, Require}
 use Rattle.script_words.proofs.OneEdit.{not_many}
 use Rattle.script_words.proofs.StepNames.{no_step, one_kind}

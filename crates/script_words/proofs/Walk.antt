@@ -1,5 +1,5 @@
 -- A walk over the bytes of a word, from place to place.
-use Rattle.std.proofs.Common.{◌≡◌, ◌≢◌, ◌∙◌, ℕ, List, [], ◌∷◌, ◌++◌, Bool, true, false, refl, sym, ap, subst, arith}
+use Rattle.std.proofs.Common.{◌≡◌, ◌≢◌, ℕ, List, [], ◌∷◌, ◌++◌, true, refl, subst}
 use Rattle.script_words.specs.Place.{after, ends_at_space}
 use Rattle.script_words.specs.declared.place.Place.{Place}
 

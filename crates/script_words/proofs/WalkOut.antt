@@ -1,14 +1,14 @@
 -- What has been read where a walk has come to a place.
-use Rattle.std.proofs.Common.{◌≡◌, ◌≢◌, ◌∙◌, ◌⊎◌, inl, inr, ◌==◌, ℕ, List, [], ◌∷◌, ◌++◌, Bool, true, false, cond, get_or, ◌<◌, lit<, refl, sym, ap, subst, arith, append_assoc, append-nil}
+use Rattle.std.proofs.Common.{◌≡◌, ◌≢◌, ◌∙◌, ◌⊎◌, inl, inr, ◌==◌, ℕ, List, [], ◌∷◌, ◌++◌, true, false, cond, get_or, ◌<◌, lit<, refl, sym, ap, subst, arith, append_assoc, append-nil}
 use Rattle.std.proofs.lemmas.Bool.{false≢true}
 use Rattle.std.proofs.lemmas.Bool.Decides.{eqb_tells}
 use Rattle.std.proofs.lemmas.List.Elements.{All-nil, All-push}
 use Rattle.script_words.specs.Place.{after, ends_at_space}
-use Rattle.script_words.specs.Words.{IsQuotable, nothing_quoted, quoted_byte, quoted_escape, IsListable, nothing_listed, listed_byte, listed_text, IsQuotedText, IsBracketed, IsClosed, HasMark, HasNoSpace, IsWhole, IsUnclosed}
+use Rattle.script_words.specs.Words.{IsQuotable, nothing_quoted, quoted_byte, quoted_escape, IsListable, nothing_listed, listed_byte, listed_text, IsClosed, HasMark, IsWhole, IsUnclosed}
 use Rattle.script_words.specs.declared.place.Place.{Place}
 use Rattle.script_words.specs.declared.place.Place.TheVariants.{Start, Outside, Quoted, Escaped, Listed, ListedQuoted, ListedEscaped}
 use Rattle.script_words.proofs.Walk.{walk, walk-append, Stays}
-use Rattle.script_words.proofs.WalkIn.{Closes, closed_closes, walk-outside}
+use Rattle.script_words.proofs.WalkIn.{closed_closes, walk-outside}
 
 -- ---- runs of quotable and of listable bytes, one behind the other
 
@@ -127,7 +127,9 @@ first_byte : (byte : ℕ) → byte ≢ 32 → byte ≢ 34 → byte ≢ 91 → Is
 first_byte byte differs quote bracket = record {
   some = λ e. cc;
   whole = record {
-    front = []; rest = byte ∷ []; parts = refl;
+    front = [];
+    rest = byte ∷ [];
+    parts = refl;
     begins = inr (refl, λ marked. elim marked [ inl e ↦ quote e | inr e ↦ bracket e ]);
     spaceless = All-push (λ b. b ≢ 32) [] byte (All-nil (λ b. b ≢ 32)) differs;
   };
@@ -234,9 +236,9 @@ pub unclosed_word : (word : List ℕ) → Stays Start word → ends_at_space (wa
 unclosed_word word stays within = record {
   mark = mark_at (walk Start word) word (at_word word stays) within;
   open_to_end = λ front rest parts closed.
-    let closes = closed_closes front closed in
-    let out : walk Start word ≡ Outside = ap (walk Start) parts ∙ walk-append Start front rest ∙ ap (λ p. walk p rest) closes.outside ∙ walk-outside rest in
-    false≢true (sym within ∙ ap ends_at_space out);
+      let closes = closed_closes front closed in
+      let out : walk Start word ≡ Outside = ap (walk Start) parts ∙ walk-append Start front rest ∙ ap (λ p. walk p rest) closes.outside ∙ walk-outside rest in
+      false≢true (sym within ∙ ap ends_at_space out);
 }
 
 -- an unclosed word is left nowhere

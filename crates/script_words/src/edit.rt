@@ -21,7 +21,7 @@ pub fn edit_of(alloc: Global, words: &[&str]) -> Result<Edit, WordsError>
     ensures err { IfErr result (IsEditFault (texts_at words.now)) }
 {
     let steps = steps_of(alloc, words)?;
-    Edit::new(steps).map_err(|_| WordsError::BadValue)
+    Ok(Edit::new(steps)?)
 }
 
 /// The steps that the words are, however many.

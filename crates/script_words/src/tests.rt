@@ -92,8 +92,14 @@ fn numbers_are_within_bounds(rt: HostRuntime) {
         assert_eq!(rt; number_of(word, 0, 1000), wanted, "{word}");
     }
     assert_eq!(rt; number_of("0", 1, 4_294_967_295), None);
-    assert_eq!(rt; number_of("4294967295", 1, 4_294_967_295), Some(4_294_967_295));
-    assert_eq!(rt; number_of("18446744073709551615", 0, u64::MAX), Some(u64::MAX));
+    assert_eq!(rt;
+        number_of("4294967295", 1, 4_294_967_295),
+        Some(4_294_967_295)
+    );
+    assert_eq!(rt;
+        number_of("18446744073709551615", 0, u64::MAX),
+        Some(u64::MAX)
+    );
 }
 
 /// Words of an edit, and why they are none.
@@ -140,7 +146,10 @@ const EDITS: [(&str, Option<WordsError>); 60] = [
     ("remove", Some(WordsError::BadValue)),
     (r#"addint "k" 2147483648"#, Some(WordsError::BadValue)),
     (r#"addint "k" -2147483649"#, Some(WordsError::BadValue)),
-    (r#"addlong "k" 9223372036854775808"#, Some(WordsError::BadValue)),
+    (
+        r#"addlong "k" 9223372036854775808"#,
+        Some(WordsError::BadValue),
+    ),
     (r#"addint "k" +1"#, Some(WordsError::BadValue)),
     (r#"addint "k" "1""#, Some(WordsError::BadValue)),
     (r#"insert "k" x"#, Some(WordsError::BadValue)),
@@ -151,7 +160,10 @@ const EDITS: [(&str, Option<WordsError>); 60] = [
     ("many clear ;", Some(WordsError::BadValue)),
     ("many ; clear", Some(WordsError::BadValue)),
     ("many clear clear", Some(WordsError::BadValue)),
-    ("many clear ; many clear ; clear", Some(WordsError::BadValue)),
+    (
+        "many clear ; many clear ; clear",
+        Some(WordsError::BadValue),
+    ),
     ("many clear ; many jump ; clear", Some(WordsError::BadValue)),
     (r#"many set "k" int ; clear"#, Some(WordsError::BadValue)),
     (r#"many set "k" int ; jump"#, Some(WordsError::UnknownWord)),
@@ -172,4 +184,58 @@ fn edits_are_read(rt: HostRuntime) -> Result<(), Fail> {
         assert_eq!(rt; fault(rt.alloc(), line)?, wanted, "{line}");
     }
     Ok(())
+}
+
+#[test]
+fn no_words_are_no_edit(rt: HostRuntime) {
+    let answer = edit_of(rt.alloc(), &[]).err();
+    assert_eq!(rt; answer, Some(WordsError::BadValue));
+}
+
+#[test]
+fn an_edit_has_at_most_16_steps(rt: HostRuntime) -> Result<(), Fail> {
+    let alloc = rt.alloc();
+    for (more, wanted) in [(15, None), (16, Some(WordsError::BadValue))] {
+        let behind = " ; clear".repeat(alloc, more)?;
+        let line = format!(in alloc; "many clear{behind}")?;
+        assert_eq!(rt; fault(alloc, line.as_str())?, wanted, "{more}");
+    }
+    Ok(())
+}
+
+#[test]
+fn an_edit_weighs_at_most_65536(rt: HostRuntime) -> Result<(), Fail> {
+    let alloc = rt.alloc();
+    for (len, wanted) in [(65519, None), (65520, Some(WordsError::BadValue))] {
+        let text = "a".repeat(alloc, len)?;
+        let line = format!(in alloc; "set \"k\" text \"{text}\"")?;
+        assert_eq!(rt; fault(alloc, line.as_str())?, wanted, "{len}");
+    }
+    Ok(())
+}
+
+#[test]
+fn keys_have_at_most_1024_bytes(rt: HostRuntime) -> Result<(), Fail> {
+    let alloc = rt.alloc();
+    for (len, is_key) in [(1024, true), (1025, false)] {
+        let key = "k".repeat(alloc, len)?;
+        let word = format!(in alloc; "\"{key}\"")?;
+        assert_eq!(rt; key_of(alloc, word.as_str()).is_ok(), is_key, "{len}");
+    }
+    Ok(())
+}
+
+#[test]
+fn texts_are_quoted(rt: HostRuntime) {
+    for (word, wanted) in [
+        (r#""""#, None),
+        (r#""a\nb""#, None),
+        (r#""a"b"#, Some(WordsError::BadValue)),
+        (r#""a"#, Some(WordsError::BadValue)),
+        (r#"a"#, Some(WordsError::BadValue)),
+        ("", Some(WordsError::BadValue)),
+        ("\"\t\"", Some(WordsError::BadValue)),
+    ] {
+        assert_eq!(rt; text_of(rt.alloc(), word).err(), wanted, "{word}");
+    }
 }

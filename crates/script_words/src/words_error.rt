@@ -1,3 +1,4 @@
+use prefs_edit::EditError;
 use prefs_text::ValueTextError;
 use thiserror::Error;
 
@@ -22,6 +23,17 @@ impl From<std::alloc::AllocError> for WordsError {
 
     fn from(_refused: std::alloc::AllocError) -> WordsError {
         WordsError::NoMemory
+    }
+}
+
+impl From<EditError> for WordsError {
+    ghost use Rattle.script_words.specs.declared.words_error.WordsError.TheVariants.{BadValue};
+    ghost use Rattle.std.specs.Prelude.{◌≡◌};
+
+    ghost from_gives = { λ _ error. error ≡ BadValue };
+
+    fn from(_refused: EditError) -> WordsError {
+        WordsError::BadValue
     }
 }
 

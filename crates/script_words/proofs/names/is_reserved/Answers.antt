@@ -1,5 +1,5 @@
 -- The table of the code is the list of the definition, and `any` looks through it.
-use Rattle.std.proofs.Common.{◌≡◌, ◌≢◌, ℕ, List, length, rules, subst, tests}
+use Rattle.std.proofs.Common.{◌≡◌, ◌≢◌, ℕ, List, rules, subst, tests}
 use Rattle.std.specs.Borrow.{Bor}
 use Rattle.std.specs.Prelude.{Any, IsTrue, ◌↔◌}
 use Rattle.std.specs.Slice.Iter.{iter_rest}
