@@ -1,5 +1,5 @@
 -- How the draft grows by what one line more says.
-use Rattle.std.proofs.Common.{ℕ, ◌≡◌, ◌<◌, ◌≤◌, ◌⊎◌, ◌∙◌, List, [], ◌∷◌, ◌++◌, Option, Some, None, length, ap, sym, refl, subst, inr, ⊎_elim, arith, append-nil}
+use Rattle.std.proofs.Common.{ℕ, ◌≡◌, ◌<◌, ◌≤◌, ◌∙◌, List, [], ◌∷◌, ◌++◌, Option, Some, None, length, ap, sym, refl, subst, inr, ⊎_elim, append-nil}
 use Rattle.std.specs.Prelude.{slice_get, IsSome}
 use Rattle.std.specs.List.{filter_map}
 use Rattle.std.proofs.lemmas.Bool.{cases_lt}
@@ -8,7 +8,6 @@ use Rattle.script_lang.specs.declared.draft.Draft.{Draft}
 use Rattle.script_lang.specs.declared.line.Line.{Line}
 use Rattle.script_lang.specs.declared.line.Line.TheVariants.{Nothing, File, History, Node, Client, Run}
 use Rattle.script_lang.specs.declared.mode.Mode.{Mode}
-use Rattle.script_lang.specs.declared.script_error.ScriptFault.{ScriptFault}
 use Rattle.script_lang.specs.declared.script_error.ScriptFault.TheVariants.{TooManyNames, WrongPlace}
 use Rattle.script_lang.specs.Draft.{draft_of, node_of, client_of, home_of, file_of, entries_of, run_of}
 use Rattle.script_lang.specs.Faults.{RowBreaks}

@@ -1,11 +1,11 @@
 -- Each script keeps what is asked of scripts, since each of its lines does.
 use Rattle.std.proofs.Common.{ℕ, zero, suc, ◌≡◌, ◌+◌, ◌<◌, ◌≤◌, ◌⊎◌, ◌∙◌, List, [], ◌∷◌, ◌++◌, Option, Some, None, length, ap, sym, refl, subst, inl, inr, ⊎_elim, arith, lit≤, length-append, append-nil, append_assoc}
-use Rattle.std.specs.Prelude.{All, Contains, codes, slice_get, unwrap_or}
+use Rattle.std.specs.Prelude.{Contains, codes, slice_get, unwrap_or}
 use Rattle.std.specs.List.{filter_map}
 use Rattle.std.specs.List.{cons_option}
 use Rattle.std.specs.Option.{IfSome, IsSomeAnd}
 use Rattle.std.proofs.lemmas.Bool.{cases_lt}
-use Rattle.std.proofs.lemmas.List.Elements.{All-nil, All-push, All-weaker, Contains-push_cases, Contains-append_left}
+use Rattle.std.proofs.lemmas.List.Elements.{All-nil, All-push, All-weaker, Contains-push_cases}
 use Rattle.std.proofs.lemmas.Option.{slice_get_within}
 use Rattle.store_traits.specs.declared.ids.ClientId.{ClientId}
 use Rattle.store_traits.specs.declared.ids.NodeId.{NodeId}
@@ -20,13 +20,13 @@ use Rattle.script_lang.specs.declared.run_line.Act.TheVariants.{Update, Go, Read
 use Rattle.script_lang.specs.declared.run_line.RunLine.{RunLine}
 use Rattle.script_lang.specs.declared.script.Script.{Script}
 use Rattle.script_lang.specs.declared.script_error.ScriptFault.{ScriptFault}
-use Rattle.script_lang.specs.declared.script_error.ScriptFault.TheVariants.{NameTaken, TooManyNames, TooManyLines}
+use Rattle.script_lang.specs.declared.script_error.ScriptFault.TheVariants.{NameTaken, TooManyLines}
 use Rattle.script_lang.specs.Draft.{draft_of, run_of}
 use Rattle.script_lang.specs.Faults.{IsTaken, RowBreaks, SomeRowBreaks}
-use Rattle.script_lang.specs.Growth.{HasPlace, draft_with}
-use Rattle.script_lang.specs.Keeps.{CanName, Keeps, KeepsAct, KeepsEntries, KeepsHomes, KeepsNames, KeepsRun, KeepsRuns, StandOnce}
+use Rattle.script_lang.specs.Growth.{draft_with}
+use Rattle.script_lang.specs.Keeps.{CanName, Keeps, KeepsEntries, KeepsHomes, KeepsNames, KeepsRun, KeepsRuns, StandOnce}
 use Rattle.script_lang.specs.Lines.{lines_of}
-use Rattle.script_lang.specs.Meaning.{AllSay, Means, Says, script_of}
+use Rattle.script_lang.specs.Meaning.{AllSay, Means, Says}
 use Rattle.script_lang.specs.Rows.{Row, keyword}
 use Rattle.script_lang.specs.Spelling.{SomeRowSpells, SpellsAct}
 use Rattle.script_lang.proofs.GrowthLemmas.{draft_grows, says_has_place}
@@ -61,11 +61,11 @@ slice_get-push_cases (z ∷ xs) y x (suc i) e =
 once_more : (names : List (List ℕ)) (new : List ℕ) → StandOnce names → ¬ Contains names new → StandOnce (names ++ new ∷ [])
 once_more names new once fresh i j name at_i at_j =
     ⊎_elim
-      (λ i_before. ⊎_elim (λ j_before. once i j name i_before j_before)
-        (λ j_last. absurd (fresh (let P : List ℕ → Type 0 = λ n. Contains names n in subst P (sym j_last.1) (Contains-from_slice_get names name i i_before)))) (slice_get-push_cases names new name j at_j))
-      (λ i_last. ⊎_elim (λ j_before. absurd (fresh (let P : List ℕ → Type 0 = λ n. Contains names n in subst P (sym i_last.1) (Contains-from_slice_get names name j j_before))))
-        (λ j_last. i_last.0 ∙ sym j_last.0) (slice_get-push_cases names new name j at_j))
-      (slice_get-push_cases names new name i at_i)
+    (λ i_before. ⊎_elim (λ j_before. once i j name i_before j_before)
+    (λ j_last. absurd (fresh (let P : List ℕ → Type 0 = λ n. Contains names n in subst P (sym j_last.1) (Contains-from_slice_get names name i i_before)))) (slice_get-push_cases names new name j at_j))
+    (λ i_last. ⊎_elim (λ j_before. absurd (fresh (let P : List ℕ → Type 0 = λ n. Contains names n in subst P (sym i_last.1) (Contains-from_slice_get names name j j_before))))
+    (λ j_last. i_last.0 ∙ sym j_last.0) (slice_get-push_cases names new name j at_j))
+    (slice_get-push_cases names new name i at_i)
 
 node_keeps : (nodes clients : List (List ℕ)) (name : List ℕ) → KeepsNames nodes clients → length nodes < 16 → IsName name → ¬ (Contains reserved name ⊎ (Contains nodes name ⊎ Contains clients name)) → KeepsNames (nodes ++ name ∷ []) clients
 node_keeps nodes clients name keeps few is_name fresh =

@@ -35,8 +35,8 @@ one_fault_of_number a b e = sym (fault_at-number a) ∙ ap fault_at e ∙ fault_
 pub passed : (broken : ScriptFault → Type 0) (fault : ScriptFault) → NoneBelow broken (fault_number fault) → ¬ broken fault → NoneBelow broken (fault_number fault + 1)
 passed broken fault below kept = record {
   none = λ other less is_broken.
-    let cases : (fault_number other < fault_number fault) ⊎ (fault_number fault ≤ fault_number other) = cases_lt (fault_number other) (fault_number fault) in
-    ⊎_elim (λ lower. below.none other lower is_broken)
+      let cases : (fault_number other < fault_number fault) ⊎ (fault_number fault ≤ fault_number other) = cases_lt (fault_number other) (fault_number fault) in
+      ⊎_elim (λ lower. below.none other lower is_broken)
       (λ same. kept (subst broken (one_fault_of_number other fault (omega arith)) is_broken)) cases;
 }
 
@@ -44,8 +44,8 @@ pub least_at : (broken : ScriptFault → Type 0) (fault : ScriptFault) → NoneB
 least_at broken fault below is_broken = record {
   breaks = is_broken;
   before_others = λ other other_broken.
-    let cases : (fault_number other < fault_number fault) ⊎ (fault_number fault ≤ fault_number other) = cases_lt (fault_number other) (fault_number fault) in
-    ⊎_elim (λ lower. absurd (below.none other lower other_broken)) (λ least. least) cases;
+      let cases : (fault_number other < fault_number fault) ⊎ (fault_number fault ≤ fault_number other) = cases_lt (fault_number other) (fault_number fault) in
+      ⊎_elim (λ lower. absurd (below.none other lower other_broken)) (λ least. least) cases;
 }
 
 numbered : (fault : ScriptFault) → 1 ≤ fault_number fault

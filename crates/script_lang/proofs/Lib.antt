@@ -1,7 +1,6 @@
 pub mod FileLemmas
 pub mod GrowthLemmas
 pub mod KeepsLemmas
-pub mod ScriptLaws
 pub mod LeastFault
 pub mod LineLemmas
 pub mod NameLemmas
@@ -13,6 +12,7 @@ pub mod ReadLines
 pub mod ReadSoFar
 pub mod RowFaults
 pub mod RunRows
+pub mod ScriptLaws
 pub mod StartRows
-pub mod Tests
+pub mod TestLemmas
 pub mod WordLemmas

@@ -1,12 +1,11 @@
 -- How the lines of bytes go on behind the first of them.
-use Rattle.std.proofs.Common.{ltb, ◌≡◌, ◌==◌, ◌+◌, ◌-◌, ◌<◌, ◌≤◌, ◌∙◌, ℕ, Bool, true, false, cond, List, [], ◌∷◌, ◌++◌, Option, Some, None, length, get_or, take, drop, ap, sym, refl, subst, arith}
-use Rattle.std.specs.List.{position, position_or_len, slice_split, onto_first, before_first, after_first, All}
+use Rattle.std.proofs.Common.{◌≡◌, ◌==◌, ◌+◌, ◌<◌, ◌≤◌, ◌∙◌, ℕ, Bool, true, false, cond, List, [], ◌∷◌, Some, None, length, take, drop, ap, refl, arith}
+use Rattle.std.specs.List.{position, position_or_len, slice_split, onto_first, before_first, after_first}
 use Rattle.std.proofs.lemmas.List.Splits.{slice_split_first, slice_split_none}
 use Rattle.std.proofs.lemmas.List.Sums.{position_or_len_is, fails_before_first}
 use Rattle.std.proofs.lemmas.List.Quantifiers.{position-Some}
 use Rattle.std.proofs.lemmas.List.Elements.{All-from_get_or}
 use Rattle.std.proofs.lemmas.Option.{none-some}
-use Rattle.std.proofs.lemmas.Bool.{cases_lt}
 use Rattle.std.proofs.lemmas.Bool.Decides.{nat_tests}
 use Rattle.script_lang.specs.Lines.{lines_of, without_empty_end}
 
@@ -16,7 +15,7 @@ first_part p [] = ([], [], refl)
 first_part p (byte ∷ bytes) =
     let tail = first_part p bytes in
     elim (p byte) as (λ b. (part : List ℕ) × (more : List (List ℕ)) × (cond b ([] ∷ slice_split p bytes) (onto_first byte (slice_split p bytes)) ≡ part ∷ more)) [
-        true ↦ ([], slice_split p bytes, refl)
+      | true ↦ ([], slice_split p bytes, refl)
       | false ↦ (byte ∷ tail.0, tail.1, rw tail.2 refl)
     ]
 
@@ -33,7 +32,7 @@ lines_behind bytes end found =
     let parts = slice_split_first newline bytes 0 (rw place at.0) in
     let next = first_part newline (after_first newline bytes) in
     ap without_empty_end parts ∙ keeps_first (before_first newline bytes) _ next.0 next.1 next.2
-      ∙ ap (λ n. take n bytes ∷ without_empty_end (slice_split newline (drop (n + 1) bytes))) place
+    ∙ ap (λ n. take n bytes ∷ without_empty_end (slice_split newline (drop (n + 1) bytes))) place
 
 -- nothing is found exactly where each byte was passed
 passed_all : (p : ℕ → Bool) (bytes : List ℕ) → position p bytes ≡ None → length bytes ≤ position_or_len p bytes

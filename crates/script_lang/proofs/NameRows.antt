@@ -53,5 +53,5 @@ module _ (draft : Draft) (name : List ℕ) (is_name : IsName name) where
       pub client_said : ¬ IsTaken draft name → ¬ (64 ≤ length draft.clients) → ¬ FollowsOther draft → RowSays draft (keyword Client (name ∷ codes "on" ∷ home ∷ [])) (said.Client name id)
       client_said free few right =
           row_says draft (keyword Client (name ∷ codes "on" ∷ home ∷ [])) (said.Client name id)
-            (record { behind = name ∷ codes "on" ∷ home ∷ []; home_name = home; is = refl; follow = record { row = refl; is_name = is_name }; declared = declared })
-            (λ h. h) good_client known_home free few right
+          (record { behind = name ∷ codes "on" ∷ home ∷ []; home_name = home; is = refl; follow = record { row = refl; is_name = is_name }; declared = declared })
+          (λ h. h) good_client known_home free few right

@@ -1,7 +1,7 @@
 -- A word says one file.
-use Rattle.std.proofs.Common.{ℕ, ◌≡◌, ◌<◌, ◌∙◌, List, [], ◌∷◌, Ok, Err, length, ap, sym, refl, ⊎_elim, arith}
+use Rattle.std.proofs.Common.{ℕ, ◌≡◌, ◌∙◌, List, Ok, ap, sym, refl, ⊎_elim}
 use Rattle.std.specs.Prelude.{codes}
-use Rattle.hex.specs.Hex.{encode_lower, decode_of, decode_pairs, IsBytes}
+use Rattle.hex.specs.Hex.{decode_of, decode_pairs}
 use Rattle.hex.proofs.HexLemmas.{decode_of-encode_lower}
 use Rattle.hex.proofs.OnLiterals.{hex_on_literals}
 use Rattle.folder_disk.specs.declared.main_read.MainRead.{MainRead}
@@ -34,5 +34,5 @@ one_file word Absent (Bytes bytes) none also = ⊎_elim (λ empty. absurd (two_w
 one_file word (Bytes bytes) Absent some none = ⊎_elim (λ empty. absurd (two_words word none empty.1)) (λ spelled. absurd (no_digits word bytes spelled none)) some
 one_file word (Bytes a) (Bytes b) some also =
     ap Bytes (⊎_elim
-      (λ empty. ⊎_elim (λ other. empty.0 ∙ sym other.0) (λ spelled. absurd (odd_digits word b spelled empty.1)) also)
-      (λ spelled. ⊎_elim (λ empty. absurd (odd_digits word a spelled empty.1)) (λ other. one_bytes word a b spelled other) also) some)
+    (λ empty. ⊎_elim (λ other. empty.0 ∙ sym other.0) (λ spelled. absurd (odd_digits word b spelled empty.1)) also)
+    (λ spelled. ⊎_elim (λ empty. absurd (odd_digits word a spelled empty.1)) (λ other. one_bytes word a b spelled other) also) some)

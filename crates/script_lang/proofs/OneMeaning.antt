@@ -12,14 +12,11 @@ use Rattle.script_words.proofs.OneEdit.{one_edit}
 use Rattle.script_lang.specs.declared.draft.Draft.{Draft}
 use Rattle.script_lang.specs.declared.line.Line.{Line}
 use Rattle.script_lang.specs.declared.line.Line.TheVariants.{Nothing, File, History, Node, Client, Run}
-use Rattle.script_lang.specs.declared.line_word.LineWord.{LineWord}
 use Rattle.script_lang.specs.declared.line_word.LineWord.TheVariants as word
 use Rattle.script_lang.specs.declared.run_line.Act.{Act}
 use Rattle.script_lang.specs.declared.run_line.Act.TheVariants.{Update, Go, Read, Flow, Post, Restart}
-use Rattle.script_lang.specs.declared.run_line.RunLine.{RunLine}
 use Rattle.script_lang.specs.Keeps.{StandOnce}
-use Rattle.script_lang.specs.Meaning.{Says}
-use Rattle.script_lang.specs.Rows.{Row, keyword, call, HasRow, IsSkipped, IsFileWord, IsFileRow, IsHistoryRow, IsNodeRow, IsClientRow, IsGoRow}
+use Rattle.script_lang.specs.Rows.{Row, keyword, call, IsSkipped, IsFileWord, IsFileRow, IsHistoryRow, IsNodeRow, IsClientRow, IsGoRow}
 use Rattle.script_lang.specs.Spelling.{LineSpells, SomeRowSpells, Spells, SpellsAct}
 use Rattle.script_lang.proofs.OneFile.{one_file}
 use Rattle.script_lang.proofs.OneRow.{one_row}
@@ -187,6 +184,6 @@ skips_or_says draft line (Run run) spelled = inr spelled
 pub one_meaning : (draft : Draft) → StandOnce draft.nodes → StandOnce draft.clients → (line : List ℕ) (a b : Line) → LineSpells draft line a → LineSpells draft line b → a ≡ b
 one_meaning draft nodes_once clients_once line a b x y =
     ⊎_elim
-      (λ skipped. ⊎_elim (λ also. skipped.1 ∙ sym also.1) (λ read. absurd (read.read skipped.0)) (skips_or_says draft line b y))
-      (λ read. ⊎_elim (λ skipped. absurd (read.read skipped.0)) (λ also. both_of_rows draft nodes_once clients_once a b line read also) (skips_or_says draft line b y))
-      (skips_or_says draft line a x)
+    (λ skipped. ⊎_elim (λ also. skipped.1 ∙ sym also.1) (λ read. absurd (read.read skipped.0)) (skips_or_says draft line b y))
+    (λ read. ⊎_elim (λ skipped. absurd (read.read skipped.0)) (λ also. both_of_rows draft nodes_once clients_once a b line read also) (skips_or_says draft line b y))
+    (skips_or_says draft line a x)

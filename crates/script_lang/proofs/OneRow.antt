@@ -1,7 +1,6 @@
 -- Each line has one row.
-use Rattle.std.proofs.Common.{ℕ, ◌≡◌, ◌≢◌, ◌==◌, ◌+◌, ◌*◌, ◌∙◌, ◌⊎◌, List, [], ◌∷◌, ◌++◌, length, cond, ap, sym, refl, subst, inl, inr, ⊎_elim}
+use Rattle.std.proofs.Common.{ℕ, ◌≡◌, ◌==◌, ◌+◌, ◌*◌, ◌∙◌, List, ◌∷◌, length, cond, ap, sym, refl, subst}
 use Rattle.std.specs.Prelude.{slice_index}
-use Rattle.script_words.specs.Words.{AreWords}
 use Rattle.script_words.proofs.OneLine.{one_list}
 use Rattle.script_lang.specs.declared.line_word.LineWord.{LineWord}
 use Rattle.script_lang.specs.declared.line_word.LineWord.TheVariants.{File, History, Handler, Legacy, Migrate, Node, Client, Fault, Fuse, Die, Go, Stop}

@@ -1,18 +1,16 @@
 -- From a line's words to the line.
-use Rattle.std.proofs.Common.{ℕ, ◌≡◌, ◌+◌, ◌<◌, ◌≤◌, ◌⊎◌, ◌∙◌, List, [], ◌∷◌, ◌++◌, length, Bor, Result, Ok, Err, subst, sym, refl, inl, inr, ⊎_elim, arith}
-use Rattle.std.specs.Str.{IsUtf8}
+use Rattle.std.proofs.Common.{ℕ, ◌≡◌, ◌≤◌, List, [], ◌∷◌, ◌++◌, length, Bor, Result, Ok, Err, subst, inl, inr, ⊎_elim, arith}
 use Rattle.script_words.specs.Words.{AreWords, texts_at}
 use Rattle.script_lang.specs.declared.draft.Draft.{Draft}
 use Rattle.script_lang.specs.declared.line.Line.{Line}
-use Rattle.script_lang.specs.declared.line.Line.TheVariants.{Nothing, File, History, Node, Client, Run}
-use Rattle.script_lang.specs.declared.line_word.LineWord.{LineWord}
+use Rattle.script_lang.specs.declared.line.Line.TheVariants.{Nothing}
 use Rattle.script_lang.specs.declared.script_error.ScriptFault.{ScriptFault}
 use Rattle.script_lang.specs.declared.script_error.ScriptFault.TheVariants.{NotUtf8, LineTooLong, TooManyLines, UnknownWord, BadValue, UnknownName, NameTaken, TooManyNames, WrongPlace, NoMemory}
-use Rattle.script_lang.specs.Faults.{Breaks, IsLeast, RowBreaks, SomeRowBreaks, fault_number}
+use Rattle.script_lang.specs.Faults.{Breaks, IsLeast, RowBreaks}
 use Rattle.script_lang.specs.Meaning.{Says}
-use Rattle.script_lang.specs.Reading.{IsLineFault, IsRowFault, PassesTests, ReadsLine, ReadsRow, ReadsWords, RowSays}
-use Rattle.script_lang.specs.Rows.{Row, HasRow, IsRow, IsSkipped}
-use Rattle.script_lang.specs.Spelling.{LineSpells, SomeRowSpells, Spells}
+use Rattle.script_lang.specs.Reading.{PassesTests, ReadsLine, ReadsRow, ReadsWords}
+use Rattle.script_lang.specs.Rows.{Row, HasRow, IsSkipped}
+use Rattle.script_lang.specs.Spelling.{LineSpells, Spells}
 use Rattle.script_lang.proofs.OneRow.{one_row}
 
 module _ (draft : Draft) (number : ℕ) (line : List ℕ) (tested : PassesTests number line) where

@@ -5,7 +5,6 @@ use Rattle.script_lang.specs.declared.line.Line.{Line}
 use Rattle.script_lang.specs.declared.mode.Mode.{Mode}
 use Rattle.script_lang.specs.declared.script.Script.{Script}
 use Rattle.script_lang.specs.declared.script_error.ScriptError.{ScriptError}
-use Rattle.script_lang.specs.declared.script_error.ScriptFault.{ScriptFault}
 use Rattle.script_lang.specs.Draft.{draft_of}
 use Rattle.script_lang.specs.Faults.{Breaks, IsLeast}
 use Rattle.script_lang.specs.Growth.{draft_with}
@@ -77,16 +76,16 @@ module _ (mode : Mode) (bytes : List ℕ) (number : ℕ) (rest : List ℕ) (draf
   pub stopped : (line behind : List ℕ) (error : ScriptError) → lines_of rest ≡ line ∷ lines_of behind → StopsAt draft (number + 1) line error → IsRefusalOf mode bytes error
   stopped line behind error first stops =
       ⊎_elim (λ free. inl free)
-        (λ least. inr (record {
-          front = so_far.front;
-          line = line;
-          behind = lines_of behind;
-          said = so_far.said;
-          lines = so_far.lines ∙ ap (λ (more : List (List ℕ)). so_far.front ++ more) first;
-          before = so_far.each;
-          counted = stops.line_number ∙ ap (λ n. n + 1) so_far.counted;
-          least =
+      (λ least. inr (record {
+        front = so_far.front;
+        line = line;
+        behind = lines_of behind;
+        said = so_far.said;
+        lines = so_far.lines ∙ ap (λ (more : List (List ℕ)). so_far.front ++ more) first;
+        before = so_far.each;
+        counted = stops.line_number ∙ ap (λ n. n + 1) so_far.counted;
+        least =
             let P : Draft → Type 0 = λ d. IsLeast (Breaks d error.line line) error.fault in
             let N : ℕ → Type 0 = λ n. IsLeast (Breaks draft n line) error.fault in
             subst P so_far.drafted (subst N (sym stops.line_number) least);
-        })) stops.why
+      })) stops.why

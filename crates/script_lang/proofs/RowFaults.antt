@@ -1,10 +1,10 @@
 -- The least rule that the words of a line break, and that they break none.
-use Rattle.std.proofs.Common.{◌≡◌, ◌+◌, ◌<◌, ◌⊎◌, ℕ, inr}
+use Rattle.std.proofs.Common.{inr}
 use Rattle.script_lang.specs.declared.draft.Draft.{Draft}
 use Rattle.script_lang.specs.declared.line.Line.{Line}
 use Rattle.script_lang.specs.declared.script_error.ScriptFault.{ScriptFault}
-use Rattle.script_lang.specs.declared.script_error.ScriptFault.TheVariants.{UnknownWord, BadValue, UnknownName, NameTaken, TooManyNames, WrongPlace, NoMemory}
-use Rattle.script_lang.specs.Faults.{IsLeast, RowBreaks, HasUnknownWord, HasBadValue, HasUnknownName, TakesName, IsOneTooMany, StandsWrong, fault_number}
+use Rattle.script_lang.specs.declared.script_error.ScriptFault.TheVariants.{UnknownWord, BadValue, UnknownName, NameTaken, TooManyNames, WrongPlace}
+use Rattle.script_lang.specs.Faults.{RowBreaks, HasUnknownWord, HasBadValue, HasUnknownName, TakesName, IsOneTooMany, StandsWrong}
 use Rattle.script_lang.specs.Reading.{RowSays, IsRowFault}
 use Rattle.script_lang.specs.Rows.{Row}
 use Rattle.script_lang.specs.Spelling.{Spells}

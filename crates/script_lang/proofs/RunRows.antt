@@ -14,7 +14,7 @@ use Rattle.script_lang.specs.declared.line_word.LineWord.TheVariants as word
 use Rattle.script_lang.specs.declared.run_line.Act.TheVariants.{Go, Update}
 use Rattle.script_lang.specs.declared.script_error.ScriptFault.TheVariants.{UnknownName}
 use Rattle.script_lang.specs.FaultOfWords.{fault_of_words}
-use Rattle.script_lang.specs.Faults.{HasBadValue, HasUnknownWord, HasUnknownName}
+use Rattle.script_lang.specs.Faults.{HasBadValue, HasUnknownWord}
 use Rattle.script_lang.specs.Reading.{RowSays, IsRowFault}
 use Rattle.script_lang.specs.Rows.{keyword, call}
 use Rattle.script_lang.proofs.NameLemmas.{Contains-from_slice_get}
@@ -30,8 +30,8 @@ module _ (draft : Draft) (name number : List ℕ) (steps : ℕ) (is_number : IsN
   pub go_said : (client : ClientId) → slice_get draft.clients client.0 ≡ Some name → RowSays draft (keyword word.Go (name ∷ number ∷ [])) (Run (record { client = client; act = Go steps }))
   go_said client declared =
       row_says draft (keyword word.Go (name ∷ number ∷ [])) (Run (record { client = client; act = Go steps }))
-        (record { behind = name ∷ number ∷ []; name = name; is = refl; follow = record { word = number; row = refl; is_number = is_number }; declared = declared })
-        (λ h. h) good_go (λ unknown. unknown (Contains-from_slice_get draft.clients name client.0 declared)) (λ h. h) (λ h. h) (λ h. h)
+      (record { behind = name ∷ number ∷ []; name = name; is = refl; follow = record { word = number; row = refl; is_number = is_number }; declared = declared })
+      (λ h. h) good_go (λ unknown. unknown (Contains-from_slice_get draft.clients name client.0 declared)) (λ h. h) (λ h. h) (λ h. h)
 
 module _ (draft : Draft) (name : List ℕ) (is_name : IsName name) (rest : List (List ℕ)) where
   known_call : ¬ HasUnknown rest → ¬ HasUnknownWord (call name (codes "update" ∷ rest))
@@ -53,5 +53,5 @@ module _ (draft : Draft) (name : List ℕ) (is_name : IsName name) (rest : List 
     pub update_said : (client : ClientId) → slice_get draft.clients client.0 ≡ Some name → RowSays draft (call name (codes "update" ∷ rest)) (Run (record { client = client; act = Update edit }))
     update_said client declared =
         row_says draft (call name (codes "update" ∷ rest)) (Run (record { client = client; act = Update edit }))
-          (record { name = name; words = rest; is = refl; follow = is_edit; declared = declared })
-          (known_call known) good_call (λ unknown. unknown (Contains-from_slice_get draft.clients name client.0 declared)) (λ h. h) (λ h. h) (λ h. h)
+        (record { name = name; words = rest; is = refl; follow = is_edit; declared = declared })
+        (known_call known) good_call (λ unknown. unknown (Contains-from_slice_get draft.clients name client.0 declared)) (λ h. h) (λ h. h) (λ h. h)

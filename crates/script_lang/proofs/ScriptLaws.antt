@@ -1,6 +1,5 @@
 -- Bytes are one script, or have one first faulty line, and never both.
-use Rattle.std.proofs.Common.{ℕ, ◌≡◌, ◌+◌, ◌<◌, ◌≤◌, ◌⊎◌, ◌∙◌, List, [], ◌∷◌, ◌++◌, length, ap, sym, refl, subst, append_assoc, append-nil, arith}
-use Rattle.script_lang.specs.declared.draft.Draft.{Draft}
+use Rattle.std.proofs.Common.{ℕ, ◌≡◌, ◌+◌, ◌≤◌, ◌∙◌, List, [], ◌∷◌, ◌++◌, length, ap, sym, refl, subst, append_assoc, append-nil, arith}
 use Rattle.script_lang.specs.declared.line.Line.{Line}
 use Rattle.script_lang.specs.declared.mode.Mode.{Mode}
 use Rattle.script_lang.specs.declared.script.Script.{Script}
@@ -94,7 +93,7 @@ module _ (mode : Mode) where
       let P : Line → Type 0 = λ u. AllSay mode (before ++ u ∷ []) fore b in
       let Q : Line → Type 0 = λ u. BreaksBehind ((before ++ u ∷ []) ++ b) other in
       let next = agree (before ++ s ∷ []) front fore line other behind rest a b cut.1 x.1 (subst P (sym same) y.1) (keeps_more mode before f s keeps x.0)
-          (moved before a s line broken) (subst Q (sym same) (moved before b t other also)) in
+      (moved before a s line broken) (subst Q (sym same) (moved before b t other also)) in
       let rest_same : a ≡ b = next.0 in
       (cc, next.1)
 

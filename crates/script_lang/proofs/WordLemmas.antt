@@ -1,5 +1,5 @@
 -- What stands behind a line's first word, by how many words there are.
-use Rattle.std.proofs.Common.{◌≡◌, ◌+◌, ◌-◌, ◌<◌, ◌≤◌, ℕ, List, [], ◌∷◌, length, get_or, take, drop, sub-one, Bor, refl, arith}
+use Rattle.std.proofs.Common.{◌≡◌, ◌-◌, ◌<◌, ◌≤◌, ℕ, List, [], ◌∷◌, length, get_or, take, drop, sub-one, Bor, refl, arith}
 use Rattle.std.proofs.Math.Seq.{take-length}
 use Rattle.script_words.specs.Words.{texts_at}
 

@@ -5,7 +5,7 @@ use Rattle.folder_disk.specs.declared.main_read.MainRead.{MainRead}
 use Rattle.store_traits.specs.declared.ids.NodeId.{NodeId}
 use Rattle.script_lang.specs.declared.draft.Draft.{Draft}
 use Rattle.script_lang.specs.declared.line.Line.{Line}
-use Rattle.script_lang.specs.declared.line.Line.TheVariants.{Nothing, File, History, Node, Client, Run}
+use Rattle.script_lang.specs.declared.line.Line.TheVariants.{File, History, Node, Client, Run}
 use Rattle.script_lang.specs.declared.mode.Mode.{Mode}
 use Rattle.script_lang.specs.declared.run_line.RunLine.{RunLine}
 

@@ -7,7 +7,6 @@ use Rattle.prefs_edit.specs.declared.edit_step.EditStep.{EditStep}
 use Rattle.script_words.specs.EditWords.{AreEditWords, HasUnknown}
 use Rattle.script_words.specs.Names.{IsName, reserved}
 use Rattle.script_lang.specs.declared.draft.Draft.{Draft}
-use Rattle.script_lang.specs.declared.line_word.LineWord.{LineWord}
 use Rattle.script_lang.specs.declared.line_word.LineWord.TheVariants.{File, History, Node, Client, Go}
 use Rattle.script_lang.specs.declared.mode.Mode.TheVariants.{Nodes}
 use Rattle.script_lang.specs.declared.script_error.ScriptFault.{ScriptFault}

@@ -18,9 +18,11 @@ mod run_rows;
 mod script;
 mod script_error;
 mod series;
-mod start_rows;
 mod session_plan;
 mod start;
+mod start_rows;
+#[cfg(test)]
+mod tests;
 
 pub use draft::Draft;
 pub use laws::{one_fault, one_script, scripts_have_no_fault, scripts_keep_their_rules};

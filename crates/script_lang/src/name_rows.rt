@@ -16,11 +16,7 @@ pub const MAX_NODES: usize = 16;
 pub const MAX_CLIENTS: usize = 64;
 
 /// `node NAME`
-pub(crate) fn read_node(
-    alloc: Global,
-    draft: &Draft,
-    behind: &[&str],
-) -> Result<Line, ScriptFault>
+pub(crate) fn read_node(alloc: Global, draft: &Draft, behind: &[&str]) -> Result<Line, ScriptFault>
     ensures { ReadsRow draft.now (keyword LineWord.Node (texts_at behind.now)) result }
 {
     let [name] = behind else {

@@ -61,7 +61,10 @@ impl NameTable {
         requires { length self < 2 ^ 32 }
         ensures { IfOk result (λ table. table ≡ self ++ name ∷ []) }
     {
-        let NameTable { mut names, mut places } = self;
+        let NameTable {
+            mut names,
+            mut places,
+        } = self;
         let key = String::from_str(alloc, name.as_str())?;
         let place = names.len() as u32;
         places.insert(key, place)?;

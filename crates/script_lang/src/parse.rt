@@ -31,20 +31,19 @@ pub fn parse_script(alloc: Global, bytes: &[u8], mode: Mode) -> Result<Script, S
 }
 
 /// The draft once the line with this number is read.
-fn next_draft(
-    alloc: Global,
-    draft: Draft,
-    number: u64,
-    line: &[u8],
-) -> Result<Draft, ScriptError>
+fn next_draft(alloc: Global, draft: Draft, number: u64, line: &[u8]) -> Result<Draft, ScriptError>
     ensures ok { IfOk result (GoesOn draft number line.now) }
     ensures err { IfErr result (StopsAt draft number line.now) }
 {
     let read = read_line(alloc, &draft, number, line);
     match read {
-        Ok(said) => draft
-            .with(alloc, said)
-            .map_err(|_| ScriptError { line: number, fault: ScriptFault::NoMemory }),
-        Err(fault) => Err(ScriptError { line: number, fault }),
+        Ok(said) => draft.with(alloc, said).map_err(|_| ScriptError {
+            line: number,
+            fault: ScriptFault::NoMemory,
+        }),
+        Err(fault) => Err(ScriptError {
+            line: number,
+            fault,
+        }),
     }
 }

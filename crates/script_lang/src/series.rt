@@ -55,7 +55,8 @@ impl<T> Series<T> {
 
     /// Adds a value at the end.
     pub fn push(&mut self, item: T) -> Result<(), AllocError>
-        where T: Drop
+    where
+        T: Drop,
         ensures { OnOk result (self.new ≡ self.old ++ item ∷ []) }
     {
         self.items.push(item)?;

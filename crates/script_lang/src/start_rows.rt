@@ -16,11 +16,7 @@ use store_traits::FileBytes;
 pub(crate) const MAX_ENTRIES: u64 = 100_000;
 
 /// `file HEX`, `file empty`, `file none`
-pub(crate) fn read_file(
-    alloc: Global,
-    draft: &Draft,
-    behind: &[&str],
-) -> Result<Line, ScriptFault>
+pub(crate) fn read_file(alloc: Global, draft: &Draft, behind: &[&str]) -> Result<Line, ScriptFault>
     ensures { ReadsRow draft.now (keyword LineWord.File (texts_at behind.now)) result }
 {
     let [word] = behind else {

@@ -1,7 +1,6 @@
-use Rattle.std.proofs.Common.{rules, ◌≡◌, ◌<◌, ◌∷◌, length, take, drop, sym, ◌∙◌}
+use Rattle.std.proofs.Common.{sym, ◌∙◌}
 use Rattle.std.proofs.lemmas.Grind.{common_steps}
 use Rattle.std.proofs.Common.{arith}
-use Rattle.script_lang.specs.Lines.{lines_of}
 use Rattle.script_lang.proofs.LineLemmas.{lines_behind, only_line}
 use Rattle.script_lang.proofs.lines.first_line.Goals as goal
 

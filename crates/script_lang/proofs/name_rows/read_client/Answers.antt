@@ -1,7 +1,7 @@
 use Rattle.std.proofs.Common.{◌≡◌, ◌∙◌, arith, get_or}
 use Rattle.std.specs.Prelude.{codes}
 use Rattle.script_lang.proofs.NameRows.{client_unknown, client_taken, client_too_many, client_barred, client_said}
-use Rattle.script_lang.proofs.Tests.{refuted, same_text}
+use Rattle.script_lang.proofs.TestLemmas.{refuted, same_text}
 use Rattle.script_lang.proofs.WordLemmas.{no_word, three_texts}
 use Rattle.script_lang.proofs.name_rows.read_client.Goals as goal
 

@@ -1,6 +1,6 @@
-use Rattle.std.proofs.Common.{◌≡◌, ◌∙◌, arith}
+use Rattle.std.proofs.Common.{◌∙◌, arith}
 use Rattle.script_lang.proofs.NameRows.{node_taken, node_too_many, node_barred, node_said}
-use Rattle.script_lang.proofs.Tests.{refuted}
+use Rattle.script_lang.proofs.TestLemmas.{refuted}
 use Rattle.script_lang.proofs.WordLemmas.{one_text}
 use Rattle.script_lang.proofs.name_rows.read_node.Goals as goal
 

@@ -1,4 +1,4 @@
-use Rattle.std.proofs.Common.{ℕ, ◌≡◌, ◌-◌, ◌∷◌, ◌∙◌, List, length, take, drop, get_or, ap}
+use Rattle.std.proofs.Common.{ℕ, ◌-◌, ◌∷◌, ◌∙◌, List, length, take, drop, get_or, ap}
 use Rattle.script_words.specs.Words.{texts_at}
 use Rattle.script_lang.specs.Rows.{keyword, call}
 use Rattle.script_lang.proofs.WordLemmas.{first_text, no_word}

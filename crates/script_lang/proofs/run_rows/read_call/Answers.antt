@@ -3,7 +3,7 @@ use Rattle.std.specs.Prelude.{codes}
 use Rattle.std.proofs.lemmas.Result.{err_from_is_err_and}
 use Rattle.script_words.proofs.Unknowns.{edit_known}
 use Rattle.script_lang.proofs.RunRows.{edit_fault, update_unknown, update_said}
-use Rattle.script_lang.proofs.Tests.{same_text}
+use Rattle.script_lang.proofs.TestLemmas.{same_text}
 use Rattle.script_lang.proofs.WordLemmas.{first_text, no_word}
 use Rattle.script_lang.proofs.run_rows.read_call.Goals as goal
 

@@ -1,4 +1,4 @@
-use Rattle.std.proofs.Common.{◌≡◌, ◌∙◌, ◌/◌, length, sym, arith, rules}
+use Rattle.std.proofs.Common.{◌≡◌, ◌/◌, length, arith, rules}
 use Rattle.script_lang.proofs.FileLemmas.{spelled_half}
 use Rattle.script_lang.proofs.start_rows.bytes_of.Goals as goal
 

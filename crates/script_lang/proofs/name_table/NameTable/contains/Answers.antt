@@ -1,4 +1,3 @@
-use Rattle.std.proofs.Common.{◌≡◌, ap, sym, ◌∙◌}
 use Rattle.script_lang.proofs.NameLemmas.{found_exactly}
 use Rattle.script_lang.proofs.name_table.NameTable.contains.Goals as goal
 
