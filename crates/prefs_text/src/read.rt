@@ -28,7 +28,11 @@ pub fn parse_value(alloc: Global, text: &str) -> Result<PrefValue, ValueTextErro
 }
 
 /// The value of the kind that this text is, which stands behind the kind's name. It never answers `UnknownKind`.
-pub fn content_value(alloc: Global, kind: ValueKind, content: &str) -> Result<PrefValue, ValueTextError>
+pub fn content_value(
+    alloc: Global,
+    kind: ValueKind,
+    content: &str,
+) -> Result<PrefValue, ValueTextError>
     ensures ok { IfOk result (IsContentOf kind content.now) }
     ensures err { IfErr result (IsBadOrNoMemory ((value : PrefValue) → ¬ IsContentOf kind content.now value) (¬ IsScalar kind)) }
 {
