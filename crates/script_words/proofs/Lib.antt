@@ -3,6 +3,7 @@ pub mod EditFaults
 pub mod OneEdit
 pub mod OneLine
 pub mod PartLemmas
+pub mod PrintedWords
 pub mod ReadSoFar
 pub mod Refusals
 pub mod RowLemmas

@@ -31,21 +31,21 @@ record Returns (place : Place) (text : List ℕ) : Type 0 where
   stays : Stays place text
   same : walk place text ≡ place
 
-quotable_returns : (quote escape : Place) (text : List ℕ) → IsQuotePlace quote escape → IsQuotable text → Returns quote text
-quotable_returns quote escape text at nothing_quoted = record { stays = tt; same = refl }
-quotable_returns quote escape text at (quoted_byte byte rest parts mark slash others) =
-    let further = quotable_returns quote escape rest at others in
-    let step : quote ≡ after quote byte = sym (at.plain byte mark slash) in
-    subst (λ t. Returns quote t) (sym parts) (record {
-      stays = (passes quote byte at.inner, subst (λ p. Stays p rest) step further.stays);
+quotable_returns : (here behind : Place) (text : List ℕ) → IsQuotePlace here behind → IsQuotable text → Returns here text
+quotable_returns here behind text at nothing_quoted = record { stays = tt; same = refl }
+quotable_returns here behind text at (quoted_byte byte rest parts mark slash others) =
+    let further = quotable_returns here behind rest at others in
+    let step : here ≡ after here byte = sym (at.plain byte mark slash) in
+    subst (λ t. Returns here t) (sym parts) (record {
+      stays = (passes here byte at.inner, subst (λ p. Stays p rest) step further.stays);
       same = ap (λ p. walk p rest) (sym step) ∙ further.same;
     })
-quotable_returns quote escape text at (quoted_escape byte rest parts others) =
-    let further = quotable_returns quote escape rest at others in
-    let step : quote ≡ after (after quote 92) byte = sym (ap (λ p. after p byte) at.slash ∙ at.back byte) in
-    let within : ends_at_space (after quote 92) ≡ false = ap ends_at_space at.slash ∙ at.inner_escape in
-    subst (λ t. Returns quote t) (sym parts) (record {
-      stays = (passes quote 92 at.inner, (passes (after quote 92) byte within, subst (λ p. Stays p rest) step further.stays));
+quotable_returns here behind text at (quoted_escape byte rest parts others) =
+    let further = quotable_returns here behind rest at others in
+    let step : here ≡ after (after here 92) byte = sym (ap (λ p. after p byte) at.slash ∙ at.back byte) in
+    let within : ends_at_space (after here 92) ≡ false = ap ends_at_space at.slash ∙ at.inner_escape in
+    subst (λ t. Returns here t) (sym parts) (record {
+      stays = (passes here 92 at.inner, (passes (after here 92) byte within, subst (λ p. Stays p rest) step further.stays));
       same = ap (λ p. walk p rest) (sym step) ∙ further.same;
     })
 

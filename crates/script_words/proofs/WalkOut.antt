@@ -12,7 +12,7 @@ use Rattle.script_words.proofs.WalkIn.{closed_closes, walk-outside}
 
 -- ---- runs of quotable and of listable bytes, one behind the other
 
-quotable_append : (a b : List ℕ) → IsQuotable a → IsQuotable b → IsQuotable (a ++ b)
+pub quotable_append : (a b : List ℕ) → IsQuotable a → IsQuotable b → IsQuotable (a ++ b)
 quotable_append a b nothing_quoted y = y
 quotable_append a b (quoted_byte byte rest parts mark slash others) y = quoted_byte byte (rest ++ b) (ap (λ t. t ++ b) parts) mark slash (quotable_append rest b others y)
 quotable_append a b (quoted_escape byte rest parts others) y = quoted_escape byte (rest ++ b) (ap (λ t. t ++ b) parts) (quotable_append rest b others y)
@@ -23,7 +23,7 @@ one_quotable byte mark slash = quoted_byte byte [] refl mark slash nothing_quote
 one_escape : (byte : ℕ) → IsQuotable (92 ∷ byte ∷ [])
 one_escape byte = quoted_escape byte [] refl nothing_quoted
 
-listable_append : (a b : List ℕ) → IsListable a → IsListable b → IsListable (a ++ b)
+pub listable_append : (a b : List ℕ) → IsListable a → IsListable b → IsListable (a ++ b)
 listable_append a b nothing_listed y = y
 listable_append a b (listed_byte byte rest parts mark bracket others) y = listed_byte byte (rest ++ b) (ap (λ t. t ++ b) parts) mark bracket (listable_append rest b others y)
 listable_append a b (listed_text inner rest parts quotable others) y =

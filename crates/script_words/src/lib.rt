@@ -20,7 +20,10 @@ mod unknown;
 mod words_error;
 
 pub use edit::edit_of;
-pub use laws::{edits_have_no_unknown_word, one_edit, one_list_of_words, words_are_there};
+pub use laws::{
+    edits_have_no_unknown_word, lists_are_words, one_edit, one_list_of_words,
+    quoted_texts_are_words, words_are_there,
+};
 pub use line::line_words;
 pub use names::{is_name, is_reserved};
 pub use numbers::number_of;
