@@ -2,6 +2,8 @@
 //! that took. It stands on the crates whose work it does. `bench/run` builds and runs it.
 #![tactic(auto)]
 
+mod scripts;
+
 use anyhow::{Context, Result, bail};
 use byte_io::{MemSink, NeverFails};
 use folder_disk::{MainRead, MemFolder};
@@ -64,13 +66,16 @@ fn shown(alloc: Global, bytes: &[u8]) -> Result<u64> {
 }
 
 /// `ds_bench WORK FILE TIMES` prints the work, the file's bytes, the times and the nanoseconds in all.
-/// Without words it does nothing.
+/// `ds_bench scripts` reads a script of 10,000 lines and one of 100,000. Without words it does nothing.
 fn main(rt: HostRuntime) -> Result<()> {
     let mut words = env::args(&rt)?;
     let _program = words.next();
     let Some(name) = words.next() else {
         return Ok(());
     };
+    if name.as_str() == "scripts" {
+        return scripts::run(&rt);
+    }
     let Some(work) = Work::named(name.as_str()) else {
         bail!("no such work");
     };

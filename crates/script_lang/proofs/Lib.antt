@@ -1,3 +1,4 @@
+pub mod Decided
 pub mod FileLemmas
 pub mod GrowthLemmas
 pub mod KeepsLemmas

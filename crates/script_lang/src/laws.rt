@@ -21,6 +21,11 @@ pub fn scripts_have_no_fault()
     ensures { (mode : Mode) (bytes : List ℕ) (script : Script) (number : ℕ) (fault : ScriptFault) → Means mode bytes script → ¬ Faulty mode bytes number fault }
 {}
 
+/// Bytes that are no script have a faulty line.
+pub fn others_have_a_fault()
+    ensures { (mode : Mode) (bytes : List ℕ) → ((script : Script) → ¬ Means mode bytes script) → ¬ ((number : ℕ) (fault : ScriptFault) → ¬ Faulty mode bytes number fault) }
+{}
+
 /// Each script keeps what is asked of scripts.
 pub fn scripts_keep_their_rules()
     ensures { (mode : Mode) (bytes : List ℕ) (script : Script) → Means mode bytes script → Keeps script }

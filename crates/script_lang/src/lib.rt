@@ -25,7 +25,9 @@ mod start_rows;
 mod tests;
 
 pub use draft::Draft;
-pub use laws::{one_fault, one_script, scripts_have_no_fault, scripts_keep_their_rules};
+pub use laws::{
+    one_fault, one_script, others_have_a_fault, scripts_have_no_fault, scripts_keep_their_rules,
+};
 pub use line::Line;
 pub use line_word::LineWord;
 pub use mode::Mode;
