@@ -3,6 +3,7 @@
 #![tactic(auto)]
 
 mod room;
+mod scripts;
 mod transcripts;
 
 use anyhow::{Context, Result, bail};
@@ -72,13 +73,16 @@ fn shown(alloc: Global, bytes: &[u8]) -> Result<u64> {
 /// thread and the nanoseconds in all.
 /// `ds_bench transcript LINES TIMES` prints that word, the lines, how many transcripts of so many lines are written
 /// in a round, and the nanoseconds of the fastest of so many rounds.
-/// Without words it does nothing.
+/// `ds_bench scripts` reads a script of 10,000 lines and one of 100,000. Without words it does nothing.
 fn main(rt: HostRuntime) -> Result<()> {
     let mut words = env::args(&rt)?;
     let _program = words.next();
     let Some(name) = words.next() else {
         return Ok(());
     };
+    if name.as_str() == "scripts" {
+        return scripts::run(&rt);
+    }
     let place = words
         .next()
         .context("which file, how many threads, or how many lines?")?;

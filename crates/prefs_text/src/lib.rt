@@ -41,7 +41,7 @@ pub use name_list::NameList;
 pub use names::Names;
 pub use numbers::push_numbered;
 pub use read::{content_value, parse_value};
-pub use scalars::{int_of, long_of, plain_value};
+pub use scalars::{decode_lower, int_of, long_of, plain_value};
 pub use seen::{AnswerLineSeen, AnswerSeen};
 pub use value_kind::ValueKind;
 pub use value_text_error::ValueTextError;

@@ -88,9 +88,9 @@ fn double_of(word: &str) -> Option<u64>
     }
 }
 
-// Fills the bytes from the word, and says whether the word is what is printed of them: decoding accepts upper-case
-// digits too. `digits` is room for what is printed.
-fn decode_lower(word: &str, bytes: &mut [u8], digits: &mut [u8]) -> bool
+/// Fills the bytes from the word, and says whether the word is what is printed of them, in lower-case hexadecimal.
+/// `digits` is room for what is printed: decoding alone accepts upper-case digits too.
+pub fn decode_lower(word: &str, bytes: &mut [u8], digits: &mut [u8]) -> bool
     requires { length digits.old ≡ 2 * length bytes.old }
     ensures bytes { IsBytes bytes.new }
     ensures yes { OnTrue result (word.now ≡ encode_lower bytes.new) }

@@ -1,3 +1,16 @@
+pub mod Draft
+pub mod FaultOfWords
+pub mod Faults
+pub mod Finding
 pub mod Gathering
+pub mod Growth
+pub mod Keeps
+pub mod LineWord
+pub mod Lines
+pub mod Meaning
+pub mod NameTable
+pub mod Reading
+pub mod Rows
+pub mod Spelling
 pub mod TranscriptText
 pub mod TranscriptView

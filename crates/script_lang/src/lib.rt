@@ -1,19 +1,55 @@
-//! Scripts, and what is written of their runs. It stands on `prefs_text` for the texts and on `byte_io` for the sink.
-//! Its contracts above: which script a text is, and which bytes are written of a transcript.
+//! Scripts, and what is written of their runs: which bytes are a script, what it asks for, and why others are none; and
+//! the text of a transcript. It stands on `script_words` for the words of a line, on `prefs_text` for texts and on
+//! `byte_io` for the sink. Its contracts above are those of `parse_script` and of `write_transcript`.
 #![tactic(auto)]
 
 mod answer_list;
+mod draft;
 mod file_seen;
+mod laws;
+mod line;
+mod line_word;
+mod lines;
+mod mode;
+mod name_rows;
+mod name_table;
+mod parse;
+mod reading;
+mod run_line;
+mod run_rows;
+mod script;
+mod script_error;
+mod series;
 mod session;
 mod session_list;
+mod session_plan;
+mod start;
+mod start_rows;
+#[cfg(test)]
+mod tests;
 mod transcript;
 mod write_text_error;
 mod writing;
 
 pub use answer_list::AnswerList;
+pub use draft::Draft;
 pub use file_seen::FileSeen;
+pub use laws::{
+    one_fault, one_script, others_have_a_fault, scripts_have_no_fault, scripts_keep_their_rules,
+};
+pub use line::Line;
+pub use line_word::LineWord;
+pub use mode::Mode;
+pub use name_rows::{MAX_CLIENTS, MAX_NODES};
+pub use parse::parse_script;
+pub use run_line::{Act, RunLine};
+pub use script::Script;
+pub use script_error::{ScriptError, ScriptFault};
+pub use series::Series;
 pub use session::Session;
 pub use session_list::SessionList;
+pub use session_plan::SessionPlan;
+pub use start::Start;
 pub use transcript::Transcript;
 pub use write_text_error::WriteTextError;
 pub use writing::write_transcript;

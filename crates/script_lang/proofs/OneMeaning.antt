@@ -1,0 +1,189 @@
+-- A line says one thing.
+use Rattle.std.proofs.Common.{ℕ, ◌≡◌, ◌<◌, ◌≤◌, ◌∙◌, ◌^◌, List, [], ◌∷◌, ◌⊎◌, Some, ap, sym, refl, subst, inl, inr, ⊎_elim, arith, lit≤}
+use Rattle.std.specs.Prelude.{codes, slice_get}
+use Rattle.std.proofs.lemmas.Fmt.{decimal_injective}
+use Rattle.folder_disk.specs.declared.main_read.MainRead.{MainRead}
+use Rattle.prefs_edit.specs.declared.edit_step.EditStep.{EditStep}
+use Rattle.store_traits.specs.declared.ids.ClientId.{ClientId}
+use Rattle.store_traits.specs.declared.ids.NodeId.{NodeId}
+use Rattle.script_words.specs.EditWords.{AreEditWords}
+use Rattle.script_words.specs.Numbers.{IsNumberWithin}
+use Rattle.script_words.proofs.OneEdit.{one_edit}
+use Rattle.script_lang.specs.declared.draft.Draft.{Draft}
+use Rattle.script_lang.specs.declared.line.Line.{Line}
+use Rattle.script_lang.specs.declared.line.Line.TheVariants.{Nothing, File, History, Node, Client, Run}
+use Rattle.script_lang.specs.declared.line_word.LineWord.TheVariants as word
+use Rattle.script_lang.specs.declared.run_line.Act.{Act}
+use Rattle.script_lang.specs.declared.run_line.Act.TheVariants.{Update, Go, Read, Flow, Post, Restart}
+use Rattle.script_lang.specs.Keeps.{StandOnce}
+use Rattle.script_lang.specs.Rows.{Row, keyword, call, IsSkipped, IsFileWord, IsFileRow, IsHistoryRow, IsNodeRow, IsClientRow, IsGoRow}
+use Rattle.script_lang.specs.Spelling.{LineSpells, SomeRowSpells, Spells, SpellsAct}
+use Rattle.script_lang.proofs.OneFile.{one_file}
+use Rattle.script_lang.proofs.OneRow.{one_row}
+
+one_number : (word : List ℕ) (least most a b : ℕ) → most ≤ 100000 → IsNumberWithin word least most a → IsNumberWithin word least most b → a ≡ b
+one_number word least most a b bound is also =
+    let a_high = is.high in
+    let b_high = also.high in
+    let a_fits : a < 2 ^ 64 = omega arith in
+    let b_fits : b < 2 ^ 64 = omega arith in
+    decimal_injective a b a_fits b_fits (sym is.text ∙ also.text)
+
+-- what a row says, seen from the row
+record OfFile (behind : List (List ℕ)) (said : Line) : Type 0 where
+  main : MainRead
+  is : said ≡ File main
+  follow : IsFileRow behind main
+
+record OfHistory (behind : List (List ℕ)) (said : Line) : Type 0 where
+  entries : ℕ
+  is : said ≡ History entries
+  follow : IsHistoryRow behind entries
+
+record OfNode (behind : List (List ℕ)) (said : Line) : Type 0 where
+  name : List ℕ
+  is : said ≡ Node name
+  follow : IsNodeRow behind name
+
+record OfClient (draft : Draft) (behind : List (List ℕ)) (said : Line) : Type 0 where
+  name : List ℕ
+  home_name : List ℕ
+  home : NodeId
+  is : said ≡ Client name home
+  follow : IsClientRow behind name home_name
+  declared : slice_get draft.nodes home.0 ≡ Some home_name
+
+record OfGo (draft : Draft) (behind : List (List ℕ)) (said : Line) : Type 0 where
+  name : List ℕ
+  client : ClientId
+  steps : ℕ
+  is : said ≡ Run (record { client = client; act = Go steps })
+  follow : IsGoRow behind name steps
+  declared : slice_get draft.clients client.0 ≡ Some name
+
+record OfCall (draft : Draft) (first : List ℕ) (behind : List (List ℕ)) (said : Line) : Type 0 where
+  words : List (List ℕ)
+  client : ClientId
+  edit : List EditStep
+  is : said ≡ Run (record { client = client; act = Update edit })
+  row : behind ≡ codes "update" ∷ words
+  follow : AreEditWords words edit
+  declared : slice_get draft.clients client.0 ≡ Some first
+
+abbrev OfRow : Draft → Row → Line → Type 0
+OfRow draft (keyword word.File behind) said = OfFile behind said
+OfRow draft (keyword word.History behind) said = OfHistory behind said
+OfRow draft (keyword word.Node behind) said = OfNode behind said
+OfRow draft (keyword word.Client behind) said = OfClient draft behind said
+OfRow draft (keyword word.Go behind) said = OfGo draft behind said
+OfRow draft (keyword _ behind) said = ⊥
+OfRow draft (call first behind) said = OfCall draft first behind said
+
+act_of_row : (draft : Draft) (row : Row) (client : ClientId) (act : Act) → SpellsAct draft row client act → OfRow draft row (Run (record { client = client; act = act }))
+act_of_row draft row client (Update edit) spelled =
+    let P : Row → Type 0 = λ r. OfRow draft r (Run (record { client = client; act = Update edit })) in
+    subst P (sym spelled.is) (record { words = spelled.words; client = client; edit = edit; is = refl; row = refl; follow = spelled.follow; declared = spelled.declared })
+act_of_row draft row client (Go steps) spelled =
+    let P : Row → Type 0 = λ r. OfRow draft r (Run (record { client = client; act = Go steps })) in
+    subst P (sym spelled.is) (record { name = spelled.name; client = client; steps = steps; is = refl; follow = spelled.follow; declared = spelled.declared })
+act_of_row draft row client Read spelled = absurd spelled
+act_of_row draft row client Flow spelled = absurd spelled
+act_of_row draft row client (Post edit) spelled = absurd spelled
+act_of_row draft row client (Restart node) spelled = absurd spelled
+
+of_row : (draft : Draft) (row : Row) (said : Line) → Spells draft row said → OfRow draft row said
+of_row draft row Nothing spelled = absurd spelled
+of_row draft row (File main) spelled = let P : Row → Type 0 = λ r. OfRow draft r (File main) in subst P (sym spelled.is) (record { main = main; is = refl; follow = spelled.follow })
+of_row draft row (History entries) spelled = let P : Row → Type 0 = λ r. OfRow draft r (History entries) in subst P (sym spelled.is) (record { entries = entries; is = refl; follow = spelled.follow })
+of_row draft row (Node name) spelled = let P : Row → Type 0 = λ r. OfRow draft r (Node name) in subst P (sym spelled.is) (record { name = name; is = refl; follow = spelled.follow })
+of_row draft row (Client name home) spelled =
+    let P : Row → Type 0 = λ r. OfRow draft r (Client name home) in
+    subst P (sym spelled.is) (record { name = name; home_name = spelled.home_name; home = home; is = refl; follow = spelled.follow; declared = spelled.declared })
+of_row draft row (Run run) spelled = act_of_row draft row run.client run.act spelled
+
+same_node : (a b : NodeId) → a.0 ≡ b.0 → a ≡ b
+same_node a b e = ap (λ (n : ℕ). record { 0 = n }) e
+
+same_client : (a b : ClientId) → a.0 ≡ b.0 → a ≡ b
+same_client a b e = ap (λ (n : ℕ). record { 0 = n }) e
+
+at_same_place : (names : List (List ℕ)) → StandOnce names → (i j : ℕ) (a b : List ℕ) → a ≡ b → slice_get names i ≡ Some a → slice_get names j ≡ Some b → i ≡ j
+at_same_place names once i j a b same at_i at_j = once i j b (at_i ∙ ap Some same) at_j
+
+first_same : (a b : List ℕ) (more rest : List (List ℕ)) → a ∷ more ≡ b ∷ rest → a ≡ b
+first_same a b more rest e = cc
+
+rest_same : (a b : List ℕ) (more rest : List (List ℕ)) → a ∷ more ≡ b ∷ rest → more ≡ rest
+rest_same a b more rest e = cc
+
+module _ (draft : Draft) (nodes_once : StandOnce draft.nodes) (clients_once : StandOnce draft.clients) (a b : Line) where
+  both_files : (behind : List (List ℕ)) → OfFile behind a → OfFile behind b → a ≡ b
+  both_files behind x y =
+      let words = first_same x.follow.word y.follow.word [] [] (sym x.follow.row ∙ y.follow.row) in
+      let P : List ℕ → Type 0 = λ w. IsFileWord w x.main in
+      x.is ∙ ap File (one_file y.follow.word x.main y.main (subst P words x.follow.is_file) y.follow.is_file) ∙ sym y.is
+
+  both_bounds : (behind : List (List ℕ)) → OfHistory behind a → OfHistory behind b → a ≡ b
+  both_bounds behind x y =
+      let words = first_same x.follow.word y.follow.word [] [] (sym x.follow.row ∙ y.follow.row) in
+      let P : List ℕ → Type 0 = λ w. IsNumberWithin w 1 100000 x.entries in
+      x.is ∙ ap History (one_number y.follow.word 1 100000 x.entries y.entries (lit≤ tt) (subst P words x.follow.is_number) y.follow.is_number) ∙ sym y.is
+
+  both_nodes : (behind : List (List ℕ)) → OfNode behind a → OfNode behind b → a ≡ b
+  both_nodes behind x y = x.is ∙ ap Node (first_same x.name y.name [] [] (sym x.follow.row ∙ y.follow.row)) ∙ sym y.is
+
+  both_clients : (behind : List (List ℕ)) → OfClient draft behind a → OfClient draft behind b → a ≡ b
+  both_clients behind x y =
+      let rows = sym x.follow.row ∙ y.follow.row in
+      let names : x.name ≡ y.name = first_same x.name y.name (codes "on" ∷ x.home_name ∷ []) (codes "on" ∷ y.home_name ∷ []) rows in
+      let homes : x.home_name ≡ y.home_name = first_same x.home_name y.home_name [] [] (rest_same (codes "on") (codes "on") (x.home_name ∷ []) (y.home_name ∷ []) (rest_same x.name y.name (codes "on" ∷ x.home_name ∷ []) (codes "on" ∷ y.home_name ∷ []) rows)) in
+      let ids : x.home ≡ y.home = same_node x.home y.home (at_same_place draft.nodes nodes_once x.home.0 y.home.0 x.home_name y.home_name homes x.declared y.declared) in
+      x.is ∙ ap (λ (n : List ℕ). Client n x.home) names ∙ ap (λ (h : NodeId). Client y.name h) ids ∙ sym y.is
+
+  both_gos : (behind : List (List ℕ)) → OfGo draft behind a → OfGo draft behind b → a ≡ b
+  both_gos behind x y =
+      let rows = sym x.follow.row ∙ y.follow.row in
+      let names : x.name ≡ y.name = first_same x.name y.name (x.follow.word ∷ []) (y.follow.word ∷ []) rows in
+      let words : x.follow.word ≡ y.follow.word = first_same x.follow.word y.follow.word [] [] (rest_same x.name y.name (x.follow.word ∷ []) (y.follow.word ∷ []) rows) in
+      let ids : x.client ≡ y.client = same_client x.client y.client (at_same_place draft.clients clients_once x.client.0 y.client.0 x.name y.name names x.declared y.declared) in
+      let P : List ℕ → Type 0 = λ w. IsNumberWithin w 0 1000 x.steps in
+      let steps : x.steps ≡ y.steps = one_number y.follow.word 0 1000 x.steps y.steps (lit≤ tt) (subst P words x.follow.is_number) y.follow.is_number in
+      x.is ∙ ap (λ (c : ClientId). Run (record { client = c; act = Go x.steps })) ids ∙ ap (λ (n : ℕ). Run (record { client = y.client; act = Go n })) steps ∙ sym y.is
+
+  both_calls : (first : List ℕ) (behind : List (List ℕ)) → OfCall draft first behind a → OfCall draft first behind b → a ≡ b
+  both_calls first behind x y =
+      let words : x.words ≡ y.words = rest_same (codes "update") (codes "update") x.words y.words (sym x.row ∙ y.row) in
+      let ids : x.client ≡ y.client = same_client x.client y.client (clients_once x.client.0 y.client.0 first x.declared y.declared) in
+      let P : List (List ℕ) → Type 0 = λ w. AreEditWords w x.edit in
+      let edits : x.edit ≡ y.edit = one_edit y.words x.edit y.edit (subst P words x.follow) y.follow in
+      x.is ∙ ap (λ (c : ClientId). Run (record { client = c; act = Update x.edit })) ids ∙ ap (λ (e : List EditStep). Run (record { client = y.client; act = Update e })) edits ∙ sym y.is
+
+  both_of_row : (row : Row) → OfRow draft row a → OfRow draft row b → a ≡ b
+  both_of_row (keyword word.File behind) x y = both_files behind x y
+  both_of_row (keyword word.History behind) x y = both_bounds behind x y
+  both_of_row (keyword word.Node behind) x y = both_nodes behind x y
+  both_of_row (keyword word.Client behind) x y = both_clients behind x y
+  both_of_row (keyword word.Go behind) x y = both_gos behind x y
+  both_of_row (keyword _ behind) x y = absurd x
+  both_of_row (call first behind) x y = both_calls first behind x y
+
+  both_of_rows : (line : List ℕ) → SomeRowSpells draft line a → SomeRowSpells draft line b → a ≡ b
+  both_of_rows line x y =
+      let P : Row → Type 0 = λ row. OfRow draft row a in
+      both_of_row y.row (subst P (one_row line x.row y.row x.of_line y.of_line) (of_row draft x.row a x.spells)) (of_row draft y.row b y.spells)
+
+-- a line is skipped, or its row says something
+skips_or_says : (draft : Draft) (line : List ℕ) (said : Line) → LineSpells draft line said → (IsSkipped line × (said ≡ Nothing)) ⊎ SomeRowSpells draft line said
+skips_or_says draft line Nothing skipped = inl (skipped, refl)
+skips_or_says draft line (File main) spelled = inr spelled
+skips_or_says draft line (History entries) spelled = inr spelled
+skips_or_says draft line (Node name) spelled = inr spelled
+skips_or_says draft line (Client name home) spelled = inr spelled
+skips_or_says draft line (Run run) spelled = inr spelled
+
+pub one_meaning : (draft : Draft) → StandOnce draft.nodes → StandOnce draft.clients → (line : List ℕ) (a b : Line) → LineSpells draft line a → LineSpells draft line b → a ≡ b
+one_meaning draft nodes_once clients_once line a b x y =
+    ⊎_elim
+    (λ skipped. ⊎_elim (λ also. skipped.1 ∙ sym also.1) (λ read. absurd (read.read skipped.0)) (skips_or_says draft line b y))
+    (λ read. ⊎_elim (λ skipped. absurd (read.read skipped.0)) (λ also. both_of_rows draft nodes_once clients_once a b line read also) (skips_or_says draft line b y))
+    (skips_or_says draft line a x)

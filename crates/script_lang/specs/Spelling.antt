@@ -1,0 +1,75 @@
+-- How a line spells what it says.
+use Rattle.std.specs.Prelude.{ℕ, ◌≡◌, List, ◌∷◌, codes, Some, slice_get}
+use Rattle.folder_disk.specs.declared.main_read.MainRead.{MainRead}
+use Rattle.prefs_edit.specs.declared.edit_step.EditStep.{EditStep}
+use Rattle.store_traits.specs.declared.ids.ClientId.{ClientId}
+use Rattle.store_traits.specs.declared.ids.NodeId.{NodeId}
+use Rattle.script_words.specs.EditWords.{AreEditWords}
+use Rattle.script_lang.specs.declared.draft.Draft.{Draft}
+use Rattle.script_lang.specs.declared.line.Line.{Line}
+use Rattle.script_lang.specs.declared.line.Line.TheVariants.{Nothing, File, History, Node, Client, Run}
+use Rattle.script_lang.specs.declared.line_word.LineWord.TheVariants as word
+use Rattle.script_lang.specs.declared.run_line.Act.{Act}
+use Rattle.script_lang.specs.declared.run_line.Act.TheVariants.{Update, Go}
+use Rattle.script_lang.specs.Rows.{Row, keyword, call, HasRow, IsSkipped, IsFileRow, IsHistoryRow, IsNodeRow, IsClientRow, IsGoRow}
+
+pub record SpellsFile (row : Row) (main : MainRead) : Type 0 where
+  pub behind : List (List ℕ)
+  pub is : row ≡ keyword word.File behind
+  pub follow : IsFileRow behind main
+
+pub record SpellsHistory (row : Row) (entries : ℕ) : Type 0 where
+  pub behind : List (List ℕ)
+  pub is : row ≡ keyword word.History behind
+  pub follow : IsHistoryRow behind entries
+
+pub record SpellsNode (row : Row) (name : List ℕ) : Type 0 where
+  pub behind : List (List ℕ)
+  pub is : row ≡ keyword word.Node behind
+  pub follow : IsNodeRow behind name
+
+-- the node is named, and stands at its place of the list
+pub record SpellsClient (draft : Draft) (row : Row) (name : List ℕ) (home : NodeId) : Type 0 where
+  pub behind : List (List ℕ)
+  pub home_name : List ℕ
+  pub is : row ≡ keyword word.Client behind
+  pub follow : IsClientRow behind name home_name
+  pub declared : slice_get draft.nodes home.0 ≡ Some home_name
+
+pub record SpellsGo (draft : Draft) (row : Row) (client : ClientId) (steps : ℕ) : Type 0 where
+  pub behind : List (List ℕ)
+  pub name : List ℕ
+  pub is : row ≡ keyword word.Go behind
+  pub follow : IsGoRow behind name steps
+  pub declared : slice_get draft.clients client.0 ≡ Some name
+
+pub record SpellsUpdate (draft : Draft) (row : Row) (client : ClientId) (edit : List EditStep) : Type 0 where
+  pub name : List ℕ
+  pub words : List (List ℕ)
+  pub is : row ≡ call name (codes "update" ∷ words)
+  pub follow : AreEditWords words edit
+  pub declared : slice_get draft.clients client.0 ≡ Some name
+
+abbrev pub SpellsAct : Draft → Row → ClientId → Act → Type 0
+SpellsAct draft row client (Update edit) = SpellsUpdate draft row client edit
+SpellsAct draft row client (Go steps) = SpellsGo draft row client steps
+SpellsAct draft row client _ = ⊥
+
+abbrev pub Spells : Draft → Row → Line → Type 0
+Spells draft row Nothing = ⊥
+Spells draft row (File main) = SpellsFile row main
+Spells draft row (History entries) = SpellsHistory row entries
+Spells draft row (Node name) = SpellsNode row name
+Spells draft row (Client name home) = SpellsClient draft row name home
+Spells draft row (Run line) = SpellsAct draft row line.client line.act
+
+-- some row that the line has spells this
+pub record SomeRowSpells (draft : Draft) (line : List ℕ) (said : Line) : Type 0 where
+  pub read : ¬ IsSkipped line
+  pub row : Row
+  pub of_line : HasRow line row
+  pub spells : Spells draft row said
+
+abbrev pub LineSpells : Draft → List ℕ → Line → Type 0
+LineSpells draft line Nothing = IsSkipped line
+LineSpells draft line said = SomeRowSpells draft line said
