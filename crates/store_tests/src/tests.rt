@@ -1,1 +1,0 @@
-//! The turns of the shelf at the types of the program.
