@@ -12,7 +12,8 @@ use Rattle.shelf.specs.declared.store.Store.{Store}
 use Rattle.shelf.specs.ApplyRow.{Applies}
 use Rattle.shelf.specs.Calls.{At, First, ReadingFirst, Migrating, Finishing, Reading, Raising, Creating, Appending, SyncingScratch, Renaming, SyncingFolder, is_gone}
 use Rattle.shelf.specs.Effects.{Fails, Stops, with_entries}
-use Rattle.shelf.specs.LastRows.{last_kinds}
+use Rattle.shelf.specs.Endings.{synced_kinds}
+use Rattle.shelf.specs.LastRows.{kept_edit}
 use Rattle.shelf.specs.Progress.{Progress, Moved, Blocked, Ended}
 use Rattle.shelf.specs.ReadRows.{ReadRow, ToMigrations}
 use Rattle.shelf.specs.Turn.{EndsDead, EndsDying, Row, TurnBy, Turn, begin, has_died_by, dies_now}
@@ -56,27 +57,27 @@ module _ {V T M : Type 0} (r : Rules V T) (s : Store V M) where
   read_adds Then t (Ended (Err error.NoMemory)) rest it = adds_none t (same_history it.world)
   read_adds Then t other rest it = rest it.value other it.then
 
-  first_read_adds : (t : Turned V T) (value : V) (gave : Gave) → ToMigrations r s t value gave → Adds t
-  first_read_adds t value Moved it = adds_none t (same_history it.world)
-  first_read_adds t value other it = absurd it
+  first_read_adds : (edit : T) (t : Turned V T) (value : V) (gave : Gave) → ToMigrations r s t edit value gave → Adds t
+  first_read_adds edit t value Moved it = adds_none t (same_history it.world)
+  first_read_adds edit t value other it = absurd it
 
-  applies_adds : (t : Turned V T) (value : V) (gave : Gave) → Applies r s t value gave → Adds t
-  applies_adds t value Moved it =
+  applies_adds : (edit : T) (t : Turned V T) (value : V) (gave : Gave) → Applies r s t edit value gave → Adds t
+  applies_adds edit t value Moved it =
       adds_none t (elim it [ inl writes ↦ same_history writes.goes_on.world | inr keeps ↦ same_history keeps.goes_on.world ])
-  applies_adds t value (Ended (Err (error.Refused code edition))) it = adds_none t (same_history it.2.world)
-  applies_adds t value (Ended (Err (error.ValueTooLong len))) it = adds_none t (same_history it.1.world)
-  applies_adds t value other it = absurd it
+  applies_adds edit t value (Ended (Err (error.Refused code edition))) it = adds_none t (same_history it.2.world)
+  applies_adds edit t value (Ended (Err (error.ValueTooLong len))) it = adds_none t (same_history it.1.world)
+  applies_adds edit t value other it = absurd it
 
   row_adds : (at : At V T) (t : Turned V T) (gave : Gave) → Row r s at t gave → Adds t
-  row_adds First t Blocked it = adds_none t (same_history it.world)
-  row_adds First t Moved it = adds_none t (same_history it.world)
-  row_adds First t (Ended (Err (error.HistoryFull entries weight))) it = stops_add t it.2
-  row_adds First t (Ended (Err error.NoMemory)) it = stops_add t it.2
-  row_adds ReadingFirst t gave it = read_adds (ToMigrations r s t) t gave (first_read_adds t) it
-  row_adds (Migrating value) t Moved it = adds_none t (same_history it.1.world)
-  row_adds (Migrating value) t (Ended (Err error.NoMemory)) it = stops_add t it
-  row_adds Finishing t Moved it = adds_kinds (Inited t.call.id.node ∷ []) t (same_history it.world)
-  row_adds Reading t gave it = read_adds (Applies r s t) t gave (applies_adds t) it
+  row_adds (First edit) t Blocked it = adds_none t (same_history it.world)
+  row_adds (First edit) t Moved it = adds_none t (same_history it.world)
+  row_adds (First edit) t (Ended (Err (error.HistoryFull entries weight))) it = stops_add t it.2
+  row_adds (First edit) t (Ended (Err error.NoMemory)) it = stops_add t it.2
+  row_adds (ReadingFirst edit) t gave it = read_adds (ToMigrations r s t edit) t gave (first_read_adds edit t) it
+  row_adds (Migrating edit value) t Moved it = adds_none t (same_history it.1.world)
+  row_adds (Migrating edit value) t (Ended (Err error.NoMemory)) it = stops_add t it
+  row_adds (Finishing edit) t Moved it = adds_kinds (Inited t.call.id.node ∷ []) t (same_history it.world)
+  row_adds (Reading edit) t gave it = read_adds (Applies r s t edit) t gave (applies_adds edit t) it
   row_adds (Raising plan) t Moved it = adds_kinds (Raise ∷ []) t (same_history it.world)
   row_adds (Creating plan) t Moved it = adds_none t (same_history it.world)
   row_adds (Creating plan) t (Ended (Err (error.StorageFault place))) it = fails_add t it.1
@@ -86,8 +87,8 @@ module _ {V T M : Type 0} (r : Rules V T) (s : Store V M) where
   row_adds (SyncingScratch plan) t (Ended (Err (error.StorageFault place))) it = fails_add t it.1
   row_adds (Renaming plan) t Moved it = adds_kinds (plan.change ∷ []) t (same_history it.world)
   row_adds (Renaming plan) t (Ended (Err (error.StorageFault place))) it = fails_add t it.1
-  row_adds (SyncingFolder changed) t (Ended (Ok edition)) it = adds_kinds (last_kinds t changed) t (same_history it.1.world)
-  row_adds (SyncingFolder changed) t (Ended (Err (error.NotDurable place))) it = fails_add t it.1
+  row_adds (SyncingFolder ending) t (Ended (Ok edition)) it = adds_kinds (synced_kinds (kept_edit ending)) t (same_history it.1.world)
+  row_adds (SyncingFolder ending) t (Ended (Err (error.NotDurable place))) it = fails_add t it.1
   row_adds at t other it = absurd it
 
   dead_adds : (t : Turned V T) (gave : Gave) → EndsDead t gave → Adds t

@@ -18,13 +18,14 @@ use Rattle.scratch_rename.specs.Filling.{next_piece}
 use Rattle.shelf.specs.declared.examples.ExampleEdit.{ExampleEdit}
 use Rattle.shelf.specs.declared.store.Store.{Store}
 use Rattle.shelf.specs.ApplyRow.{new_plan, Applies}
-use Rattle.shelf.specs.Calls.{is_gone, At, Call, First, ReadingFirst, Migrating, Finishing, Reading, Raising, Creating, Appending, SyncingScratch, Renaming, SyncingFolder, ended}
+use Rattle.shelf.specs.Calls.{is_gone, At, Call, Changed as ChangedAt, Kept, First, ReadingFirst, Migrating, Finishing, Reading, Raising, Creating, Appending, SyncingScratch, Renaming, SyncingFolder, ended}
 use Rattle.shelf.specs.Deaths.{last_death, used_up}
 use Rattle.shelf.specs.Effects.{at_next, freed, next_place, with_entries, is_ready_now}
 use Rattle.shelf.specs.Base.{ReadsAs}
 use Rattle.shelf.specs.ExampleStore.{after, reads}
 use Rattle.shelf.specs.ExampleTurns.{rules}
-use Rattle.shelf.specs.LastRows.{last_kinds}
+use Rattle.shelf.specs.Endings.{synced_kinds}
+use Rattle.shelf.specs.LastRows.{kept_edit, told_place}
 use Rattle.shelf.specs.LockRow.{most_entries}
 use Rattle.shelf.specs.Progress.{Progress, Moved, Blocked, Ended}
 use Rattle.shelf.specs.Runs.{Did, Scene, Goes, Run}
@@ -84,41 +85,41 @@ module _ (s : Store ℕ (Unit {0})) where
     abbrev old_number : ℕ
     old_number = number_in w.folder.main
 
-    abbrev new_value : ℕ
-    new_value = new_number old_number (after c.edit old_number)
+    abbrev new_value : ExampleEdit → ℕ
+    new_value edit = new_number old_number (after edit old_number)
 
     abbrev failed : World ℕ ExampleEdit
     failed = record w { faults = w.faults + 1; history = with_entries c.id (Fault Folder (w.faults + 1) ∷ []) w.history; owner = freed c.id w.owner }
 
     -- the world once the call at this step went on, waited or failed
     abbrev world_then : At ℕ ExampleEdit → Progress (Result ℕ UpdateError) → World ℕ ExampleEdit
-    world_then First Moved = record w { owner = Some c.id }
-    world_then Finishing Moved = record w { history = with_entries c.id (Inited c.id.node ∷ []) w.history; owner = freed c.id w.owner }
+    world_then (First edit) Moved = record w { owner = Some c.id }
+    world_then (Finishing edit) Moved = record w { history = with_entries c.id (Inited c.id.node ∷ []) w.history; owner = freed c.id w.owner }
     world_then (Raising plan) Moved = record w { version = w.version + 1; history = with_entries c.id (Raise ∷ []) w.history }
     world_then (Creating plan) Moved = record w { folder = record w.folder { scratch = Unsynced [] } }
     world_then (Appending plan) Moved = record w { folder = record w.folder { scratch = Unsynced (scratch_bytes w.folder.scratch ++ next_piece plan.text) } }
     world_then (SyncingScratch plan) Moved = record w { folder = record w.folder { scratch = Synced (scratch_bytes w.folder.scratch) } }
     world_then (Renaming plan) Moved = record w { folder = renamed w.folder; history = with_entries c.id (plan.change ∷ []) w.history }
     world_then (Renaming plan) (Ended answer) = failed
-    world_then (SyncingFolder changed) (Ended (Err error)) = failed
-    world_then (SyncingFolder changed) (Ended answer) = record w { folder = folder_synced w.folder; history = with_entries c.id (last_kinds before changed) w.history; owner = freed c.id w.owner }
+    world_then (SyncingFolder ending) (Ended (Err error)) = failed
+    world_then (SyncingFolder ending) (Ended answer) = record w { folder = folder_synced w.folder; history = with_entries c.id (synced_kinds (kept_edit ending)) w.history; owner = freed c.id w.owner }
     world_then at gave = w
 
-    abbrev applied_at : At ℕ ExampleEdit
-    applied_at = if new_value == old_number then SyncingFolder None else Raising (new_plan rules s before new_value)
+    abbrev applied_at : ExampleEdit → At ℕ ExampleEdit
+    applied_at edit = if new_value edit == old_number then SyncingFolder (Kept edit) else Raising (new_plan rules s before edit (new_value edit))
 
     -- the call then
     abbrev call_then : At ℕ ExampleEdit → Progress (Result ℕ UpdateError) → Call ℕ ExampleEdit
-    call_then First Moved = record c { at = if is_ready_now before then Reading else ReadingFirst; room = most_entries (is_ready_now before) }
-    call_then ReadingFirst Moved = at_next 0 (Migrating old_number) c
-    call_then (Migrating value) Moved = at_next 0 Finishing c
-    call_then Finishing Moved = at_next 1 First c
-    call_then Reading Moved = at_next 0 applied_at c
+    call_then (First edit) Moved = record c { at = if is_ready_now before then Reading edit else ReadingFirst edit; room = most_entries (is_ready_now before) }
+    call_then (ReadingFirst edit) Moved = at_next 0 (Migrating edit old_number) c
+    call_then (Migrating edit value) Moved = at_next 0 (Finishing edit) c
+    call_then (Finishing edit) Moved = at_next 1 (First edit) c
+    call_then (Reading edit) Moved = at_next 0 (applied_at edit) c
     call_then (Raising plan) Moved = at_next 1 (Creating plan) c
     call_then (Creating plan) Moved = at_next 0 (filling before plan) c
     call_then (Appending plan) Moved = at_next 0 (filling before (piece_written before plan)) c
     call_then (SyncingScratch plan) Moved = at_next 0 (Renaming plan) c
-    call_then (Renaming plan) Moved = at_next 1 (SyncingFolder (Some (next_place w))) c
+    call_then (Renaming plan) Moved = at_next 1 (SyncingFolder (ChangedAt (next_place w))) c
     call_then at (Ended answer) = ended c
     call_then at gave = c
 
@@ -126,24 +127,24 @@ module _ (s : Store ℕ (Unit {0})) where
     abbrev is_open : Bool
     is_open = nat_lt (length w.history) s.limits.history.entries && nat_lt (weight_at rules w.history) s.limits.history.weight
 
-    abbrev is_applied : Bool
-    is_applied = is_number w.folder.main && (is_changed (after c.edit old_number) && nat_le 1 s.limits.file)
+    abbrev is_applied : ExampleEdit → Bool
+    is_applied edit = is_number w.folder.main && (is_changed (after edit old_number) && nat_le 1 s.limits.file)
 
     abbrev is_fine : At ℕ ExampleEdit → Progress (Result ℕ UpdateError) → Bool
-    is_fine First Blocked = is_other w.owner c.id
-    is_fine First Moved = is_nobody w.owner && is_open
-    is_fine ReadingFirst Moved = is_number w.folder.main && nat_le 1 s.limits.file
-    is_fine (Migrating value) Moved = true
-    is_fine Finishing Moved = true
-    is_fine Reading Moved = is_applied
+    is_fine (First edit) Blocked = is_other w.owner c.id
+    is_fine (First edit) Moved = is_nobody w.owner && is_open
+    is_fine (ReadingFirst edit) Moved = is_number w.folder.main && nat_le 1 s.limits.file
+    is_fine (Migrating edit value) Moved = true
+    is_fine (Finishing edit) Moved = true
+    is_fine (Reading edit) Moved = is_applied edit
     is_fine (Raising plan) Moved = true
     is_fine (Creating plan) Moved = true
     is_fine (Appending plan) Moved = true
     is_fine (SyncingScratch plan) Moved = true
     is_fine (Renaming plan) Moved = true
     is_fine (Renaming plan) (Ended (Err (StorageFault place))) = place == next_place w
-    is_fine (SyncingFolder changed) (Ended (Ok edition)) = edition == edition_of w.history
-    is_fine (SyncingFolder changed) (Ended (Err (NotDurable place))) = place == unwrap_or changed (next_place w)
+    is_fine (SyncingFolder ending) (Ended (Ok edition)) = edition == edition_of w.history
+    is_fine (SyncingFolder ending) (Ended (Err (NotDurable place))) = place == told_place (next_place w) ending
     is_fine at gave = false
 
     abbrev turned : At ℕ ExampleEdit → Progress (Result ℕ UpdateError) → Turned ℕ ExampleEdit
@@ -196,35 +197,35 @@ other_numbers new old is same = never (let equal : (new == old) ≡ true = eq-eq
 module _ (s : Store ℕ (Unit {0})) (none : s.migrations ≡ []) where
   module _ (w : World ℕ ExampleEdit) (c : Call ℕ ExampleEdit) where
     -- the turn of U2 where the two numbers are the same, or are not
-    abbrev applied_by : Bool → Turned ℕ ExampleEdit
-    applied_by same =
+    abbrev applied_by : ExampleEdit → Bool → Turned ℕ ExampleEdit
+    applied_by edit same =
         record {
           world = w;
           call = c;
           world_after = w;
-          call_after = at_next 0 (if same then SyncingFolder None else Raising (new_plan rules s (before s w c) (new_value s w c))) c;
+          call_after = at_next 0 (if same then SyncingFolder (Kept edit) else Raising (new_plan rules s (before s w c) edit (new_value s w c edit))) c;
         }
 
-    applied_so : (same : Bool) → (new_value s w c == old_number s w c) ≡ same → is_changed (after c.edit (old_number s w c)) ≡ true → 1 ≤ s.limits.file
-        → Applies rules s (applied_by same) (old_number s w c) Moved
-    applied_so true is changed fits =
-        let equal : new_value s w c ≡ old_number s w c = eqb-true (new_value s w c) (old_number s w c) is in
-        let makes : after c.edit (old_number s w c) ≡ Changed (new_value s w c) = changed_to (old_number s w c) (after c.edit (old_number s w c)) changed in
+    applied_so : (edit : ExampleEdit) (same : Bool) → (new_value s w c edit == old_number s w c) ≡ same → is_changed (after edit (old_number s w c)) ≡ true → 1 ≤ s.limits.file
+        → Applies rules s (applied_by edit same) edit (old_number s w c) Moved
+    applied_so edit true is changed fits =
+        let equal : new_value s w c edit ≡ old_number s w c = eqb-true (new_value s w c edit) (old_number s w c) is in
+        let makes : after edit (old_number s w c) ≡ Changed (new_value s w c edit) = changed_to (old_number s w c) (after edit (old_number s w c)) changed in
         inr (record {
           same = record { old = old_number s w c; held = refl; makes = rw equal at makes };
-          goes_on = record { folder = refl; faults = omega arith; world = refl; call = refl };
+          goes_on = record { folder = λ is_told. refl; faults = omega arith; world = refl; call = refl };
         })
-    applied_so false is changed fits =
-        let makes : after c.edit (old_number s w c) ≡ Changed (new_value s w c) = changed_to (old_number s w c) (after c.edit (old_number s w c)) changed in
+    applied_so edit false is changed fits =
+        let makes : after edit (old_number s w c) ≡ Changed (new_value s w c edit) = changed_to (old_number s w c) (after edit (old_number s w c)) changed in
         inl (record {
-          change = record { old = old_number s w c; new = new_value s w c; held = refl; makes = makes; differs = other_numbers (new_value s w c) (old_number s w c) is };
+          change = record { old = old_number s w c; new = new_value s w c edit; held = refl; makes = makes; differs = other_numbers (new_value s w c edit) (old_number s w c) is };
           fits = fits;
-          goes_on = record { folder = refl; faults = omega arith; world = refl; call = refl };
+          goes_on = record { folder = λ is_told. refl; faults = omega arith; world = refl; call = refl };
         })
 
     row_so : (at : At ℕ ExampleEdit) (gave : Progress (Result ℕ UpdateError)) → is_fine s w c at gave ≡ true → Row rules s at (turned s w c at gave) gave
-    row_so First Blocked is = record { owned = other_so w.owner c.id is; world = refl; call = refl }
-    row_so First Moved is =
+    row_so (First edit) Blocked is = record { owned = other_so w.owner c.id is; world = refl; call = refl }
+    row_so (First edit) Moved is =
         let parts = both_parts (is_nobody w.owner) (is_open s w c) is in
         let bounds = both_parts (nat_lt (length w.history) s.limits.history.entries) (nat_lt (weight_at rules w.history) s.limits.history.weight) parts.1 in
         let fewer : nat_lt (length w.history) s.limits.history.entries ≡ true = bounds.0 in
@@ -235,50 +236,50 @@ module _ (s : Store ℕ (Unit {0})) (none : s.migrations ≡ []) where
           world = refl;
           call = refl;
         }
-    row_so ReadingFirst Moved is =
+    row_so (ReadingFirst edit) Moved is =
         let parts = both_parts (is_number w.folder.main) (nat_le 1 s.limits.file) is in
         let limit : nat_le 1 s.limits.file ≡ true = parts.1 in
         record {
           value = old_number s w c;
-          read = reads_so s.limits.file w.folder.main parts.0 (grind (arith, nat_tests, limit));
-          then = record { folder = refl; faults = omega arith; world = refl; call = refl };
+          read = λ is_told. reads_so s.limits.file w.folder.main parts.0 (grind (arith, nat_tests, limit));
+          then = record { folder = λ is_told. refl; faults = omega arith; world = refl; call = refl };
         }
-    row_so (Migrating value) Moved is = (none, record { world = refl; call = refl })
-    row_so Finishing Moved is = record { world = refl; call = refl }
-    row_so Reading Moved is =
-        let parts = both_parts (is_number w.folder.main) (is_changed (after c.edit (old_number s w c)) && nat_le 1 s.limits.file) is in
-        let more = both_parts (is_changed (after c.edit (old_number s w c))) (nat_le 1 s.limits.file) parts.1 in
+    row_so (Migrating edit value) Moved is = (none, record { world = refl; call = refl })
+    row_so (Finishing edit) Moved is = record { world = refl; call = refl }
+    row_so (Reading edit) Moved is =
+        let parts = both_parts (is_number w.folder.main) (is_changed (after edit (old_number s w c)) && nat_le 1 s.limits.file) is in
+        let more = both_parts (is_changed (after edit (old_number s w c))) (nat_le 1 s.limits.file) parts.1 in
         let limit : nat_le 1 s.limits.file ≡ true = more.1 in
         let fits : 1 ≤ s.limits.file = grind (arith, nat_tests, limit) in
         record {
           value = old_number s w c;
-          read = reads_so s.limits.file w.folder.main parts.0 fits;
-          then = applied_so (new_value s w c == old_number s w c) refl more.0 fits;
+          read = λ is_told. reads_so s.limits.file w.folder.main parts.0 fits;
+          then = applied_so edit (new_value s w c edit == old_number s w c) refl more.0 fits;
         }
     row_so (Raising plan) Moved is = record { world = refl; call = refl }
     row_so (Creating plan) Moved is =
-        record { folder = record { main = refl; kept = refl; first = refl; alone = refl; scratch = refl }; faults = omega arith; world = refl; call = refl }
+        record { folder = λ is_told. record { main = refl; kept = refl; first = refl; alone = refl; scratch = refl }; faults = omega arith; world = refl; call = refl }
     row_so (Appending plan) Moved is =
         record {
-          folder = record { main = refl; kept = refl; first = refl; alone = refl; scratch = refl };
+          folder = λ is_told. record { main = refl; kept = refl; first = refl; alone = refl; scratch = refl };
           faults = omega arith;
           world = refl;
           call = refl;
         }
     row_so (SyncingScratch plan) Moved is =
         record {
-          folder = record { main = refl; kept = refl; first = refl; alone = refl; scratch = refl };
+          folder = λ is_told. record { main = refl; kept = refl; first = refl; alone = refl; scratch = refl };
           faults = omega arith;
           world = refl;
           call = refl;
         }
-    row_so (Renaming plan) Moved is = record { folder = refl; faults = omega arith; world = refl; call = refl }
+    row_so (Renaming plan) Moved is = record { folder = λ is_told. refl; faults = omega arith; world = refl; call = refl }
     row_so (Renaming plan) (Ended (Err (StorageFault place))) is =
-        (eqb-true place (next_place w) is, record { folder = refl; count = inl (omega arith); world = refl; call = refl })
-    row_so (SyncingFolder changed) (Ended (Ok edition)) is =
-        (eqb-true edition (edition_of w.history) is, record { folder = refl; faults = omega arith; world = refl; call = refl })
-    row_so (SyncingFolder changed) (Ended (Err (NotDurable place))) is =
-        (eqb-true place (unwrap_or changed (next_place w)) is, record { folder = refl; count = inl (omega arith); world = refl; call = refl })
+        (eqb-true place (next_place w) is, record { folder = λ is_told. refl; count = inl (omega arith); world = refl; call = refl })
+    row_so (SyncingFolder ending) (Ended (Ok edition)) is =
+        (eqb-true edition (edition_of w.history) is, record { folder = λ is_told. refl; faults = omega arith; world = refl; call = refl })
+    row_so (SyncingFolder ending) (Ended (Err (NotDurable place))) is =
+        (eqb-true place (told_place (next_place w) ending) is, record { folder = λ is_told. refl; count = inl (omega arith); world = refl; call = refl })
     row_so at gave is = never is
 
     by_so : (gone died dies : Bool) (gave : Progress (Result ℕ UpdateError)) → fine_by s w c gone died dies gave ≡ true → TurnBy rules s gone died dies (turned_by s w c died dies gave) gave

@@ -1,5 +1,5 @@
 -- What all turns have in common.
-use Rattle.std.proofs.Common.{◌≡◌, ℕ, ◌==◌, Bool, true, false, List, Option, Some, None, refl, arith, sym, ap, ◌∙◌, if◌then◌else◌, Result, Ok, Err}
+use Rattle.std.proofs.Common.{◌≡◌, ℕ, ◌==◌, Bool, true, false, List, Option, Some, None, IsTrue, refl, arith, sym, ap, ◌∙◌, if◌then◌else◌, Result, Ok, Err}
 use Rattle.std.proofs.lemmas.Bool.{eq-eqb}
 use Rattle.std.proofs.lemmas.Bool.Decides.{nat_tests}
 use Rattle.store_traits.specs.declared.ids.CallId.{CallId}
@@ -12,7 +12,7 @@ use Rattle.hist_journal.specs.declared.seen.KindSeen.{KindSeen}
 use Rattle.hist_journal.specs.Kinds.{is_call}
 use Rattle.shelf.specs.declared.store.Store.{Store}
 use Rattle.shelf.specs.ApplyRow.{Applies}
-use Rattle.shelf.specs.Calls.{At, First, ReadingFirst, Migrating, Finishing, Reading, Raising, Creating, Appending, SyncingScratch, Renaming, SyncingFolder, Gone, ended, is_gone}
+use Rattle.shelf.specs.Calls.{At, First, ReadingFirst, Migrating, Finishing, Reading, Raising, Creating, Appending, SyncingScratch, Renaming, SyncingFolder, Gone, ended, is_first, is_gone}
 use Rattle.shelf.specs.Effects.{DoesLast, Fails, Stops, freed}
 use Rattle.shelf.specs.LockRow.{LockRow, Waits}
 use Rattle.shelf.specs.Progress.{Progress, Moved, Blocked, Ended}
@@ -46,21 +46,21 @@ node_freed call None same = absurd (let no : ◌≡◌ {A = Option CallId} None 
 node_freed call (Some owner) same = node_freed_by (owner.node.0 == call.node.0) call owner refl same
 
 module _ {V T M : Type 0} (r : Rules V T) (s : Store V M) where
-  row_waits : (at : At V T) (t : Turned V T) → Row r s at t Blocked → (at ≡ First) × Waits r s t
-  row_waits First t it = (refl, it)
-  row_waits ReadingFirst t it = absurd it.then
-  row_waits (Migrating value) t it = absurd it
-  row_waits Finishing t it = absurd it
-  row_waits Reading t it = absurd it.then
+  row_waits : (at : At V T) (t : Turned V T) → Row r s at t Blocked → (is_first at ≡ true) × Waits r s t
+  row_waits (First edit) t it = (refl, it)
+  row_waits (ReadingFirst edit) t it = absurd it.then
+  row_waits (Migrating edit value) t it = absurd it
+  row_waits (Finishing edit) t it = absurd it
+  row_waits (Reading edit) t it = absurd it.then
   row_waits (Raising plan) t it = absurd it
   row_waits (Creating plan) t it = absurd it
   row_waits (Appending plan) t it = absurd it
   row_waits (SyncingScratch plan) t it = absurd it
   row_waits (Renaming plan) t it = absurd it
-  row_waits (SyncingFolder changed) t it = absurd it
+  row_waits (SyncingFolder ending) t it = absurd it
   row_waits Gone t it = absurd it
 
-  waits_by : (gone died dies : Bool) (t : Turned V T) → TurnBy r s gone died dies t Blocked → (died ≡ false) × (dies ≡ false) × (t.call.at ≡ First) × Waits r s t
+  waits_by : (gone died dies : Bool) (t : Turned V T) → TurnBy r s gone died dies t Blocked → (died ≡ false) × (dies ≡ false) × (is_first t.call.at ≡ true) × Waits r s t
   waits_by true died dies t it = absurd it
   waits_by false true dies t it = absurd it
   waits_by false false true t it = absurd it
@@ -68,46 +68,51 @@ module _ {V T M : Type 0} (r : Rules V T) (s : Store V M) where
 
   -- what waits is not ended by a death and is at its first turn, another owns the lock, and the world is as it was
   pub turn_waits : (t : Turned V T) → Turn r s t Blocked
-      → (has_died_by (begin t) ≡ false) × (dies_now (begin t) ≡ false) × (t.call.at ≡ First) × IsAnother t.world.owner t.call.id × (t.world_after ≡ t.world)
+      → (has_died_by (begin t) ≡ false) × (dies_now (begin t) ≡ false) × (is_first t.call.at ≡ true) × IsAnother t.world.owner t.call.id × (t.world_after ≡ t.world)
   turn_waits t it =
       let facts = waits_by (is_gone t.call.at) (has_died_by (begin t)) (dies_now (begin t)) (begin t) it in
       (facts.0, facts.1, facts.2, facts.3.owned, facts.3.world)
 
-  lock_waits : (t : Turned V T) (gave : Progress (Result ℕ UpdateError)) → LockRow r s t gave → IsAnother t.world.owner t.call.id → gave ≡ Blocked
-  lock_waits t Blocked it another = refl
-  lock_waits t Moved it another = absurd (it.free another)
-  lock_waits t (Ended (Err (HistoryFull entries weight))) it another = absurd (it.0 another)
-  lock_waits t (Ended (Err NoMemory)) it another = absurd (it.0 another)
-  lock_waits t other it another = absurd it
+  lock_waits : (edit : T) (t : Turned V T) (gave : Progress (Result ℕ UpdateError)) → LockRow r s t edit gave → IsAnother t.world.owner t.call.id → gave ≡ Blocked
+  lock_waits edit t Blocked it another = refl
+  lock_waits edit t Moved it another = absurd (it.free another)
+  lock_waits edit t (Ended (Err (HistoryFull entries weight))) it another = absurd (it.0 another)
+  lock_waits edit t (Ended (Err NoMemory)) it another = absurd (it.0 another)
+  lock_waits edit t other it another = absurd it
 
-  first_waits : (at : At V T) (t : Turned V T) (gave : Progress (Result ℕ UpdateError)) → at ≡ First → Row r s at t gave → IsAnother t.world.owner t.call.id → gave ≡ Blocked
-  first_waits at t gave first it another = let row : Row r s First t gave = rw first at it in lock_waits t gave row another
+  first_waits : (at : At V T) (t : Turned V T) (gave : Progress (Result ℕ UpdateError)) → is_first at ≡ true → Row r s at t gave → IsAnother t.world.owner t.call.id → gave ≡ Blocked
+  first_waits (First edit) t gave first it another = lock_waits edit t gave it another
+  first_waits other t gave first it another = never first
+
+  first_goes_on : (at : At V T) → is_first at ≡ true → is_gone at ≡ false
+  first_goes_on (First edit) first = refl
+  first_goes_on other first = never first
 
   -- where no death ends it, a first turn waits if another owns the lock
   pub turn_has_to_wait : (t : Turned V T) (gave : Progress (Result ℕ UpdateError)) → Turn r s t gave → has_died_by (begin t) ≡ false → dies_now (begin t) ≡ false
-      → t.call.at ≡ First → IsAnother t.world.owner t.call.id → gave ≡ Blocked
+      → is_first t.call.at ≡ true → IsAnother t.world.owner t.call.id → gave ≡ Blocked
   turn_has_to_wait t gave it lives goes_on first another =
-      let begins : is_gone t.call.at ≡ false = rw first refl in
+      let begins : is_gone t.call.at ≡ false = first_goes_on t.call.at first in
       let row : Row r s t.call.at (begin t) gave = rw (begins, lives, goes_on) at it in
       first_waits t.call.at (begin t) gave first row another
 
   -- the folder and the history are as they were
   pub record Untouched (t : Turned V T) : Type 0 where
-    pub folder : t.world_after.folder ≡ t.world.folder
+    pub folder : IsTrue t.world.told → t.world_after.folder ≡ t.world.folder
     pub history : t.world_after.history ≡ t.world.history
 
   row_untouched : (at : At V T) (t : Turned V T) → Row r s at t (Ended (Err NoMemory)) → Untouched t
-  row_untouched First t it = record { folder = ap (λ (w : World V T). w.folder) it.2.world; history = ap (λ (w : World V T). w.history) it.2.world }
-  row_untouched ReadingFirst t it = record { folder = it.folder; history = ap (λ (w : World V T). w.history) it.world }
-  row_untouched (Migrating value) t it = record { folder = ap (λ (w : World V T). w.folder) it.world; history = ap (λ (w : World V T). w.history) it.world }
-  row_untouched Finishing t it = absurd it
-  row_untouched Reading t it = record { folder = it.folder; history = ap (λ (w : World V T). w.history) it.world }
+  row_untouched (First edit) t it = record { folder = λ told. ap (λ (w : World V T). w.folder) it.2.world; history = ap (λ (w : World V T). w.history) it.2.world }
+  row_untouched (ReadingFirst edit) t it = record { folder = it.folder; history = ap (λ (w : World V T). w.history) it.world }
+  row_untouched (Migrating edit value) t it = record { folder = λ told. ap (λ (w : World V T). w.folder) it.world; history = ap (λ (w : World V T). w.history) it.world }
+  row_untouched (Finishing edit) t it = absurd it
+  row_untouched (Reading edit) t it = record { folder = it.folder; history = ap (λ (w : World V T). w.history) it.world }
   row_untouched (Raising plan) t it = absurd it
   row_untouched (Creating plan) t it = absurd it
   row_untouched (Appending plan) t it = absurd it
   row_untouched (SyncingScratch plan) t it = absurd it
   row_untouched (Renaming plan) t it = absurd it
-  row_untouched (SyncingFolder changed) t it = absurd it
+  row_untouched (SyncingFolder ending) t it = absurd it
   row_untouched Gone t it = absurd it
 
   untouched_by : (gone died dies : Bool) (t : Turned V T) → TurnBy r s gone died dies t (Ended (Err NoMemory)) → Untouched t
@@ -116,7 +121,7 @@ module _ {V T M : Type 0} (r : Rules V T) (s : Store V M) where
   untouched_by false false true t it = absurd it
   untouched_by false false false t it = row_untouched t.call.at t it
 
-  pub no_memory_untouched : (t : Turned V T) → Turn r s t (Ended (Err NoMemory)) → (t.world_after.folder ≡ t.world.folder) × (t.world_after.history ≡ t.world.history)
+  pub no_memory_untouched : (t : Turned V T) → Turn r s t (Ended (Err NoMemory)) → (IsTrue t.world.told → t.world_after.folder ≡ t.world.folder) × (t.world_after.history ≡ t.world.history)
   no_memory_untouched t it =
       let facts = untouched_by (is_gone t.call.at) (has_died_by (begin t)) (dies_now (begin t)) (begin t) it in
       (facts.folder, facts.history)
@@ -146,23 +151,23 @@ module _ {V T M : Type 0} (r : Rules V T) (s : Store V M) where
   read_leaves Then t (Err error.NoMemory) rest it = last_leaves t it
   read_leaves Then t other rest it = rest it.value other it.then
 
-  applies_leaves : (t : Turned V T) (value : V) (answer : Result ℕ UpdateError) → Applies r s t value (Ended answer) → Leaves t
-  applies_leaves t value (Err (error.Refused code edition)) it = last_leaves t it.2
-  applies_leaves t value (Err (error.ValueTooLong len)) it = last_leaves t it.1
-  applies_leaves t value other it = absurd it
+  applies_leaves : (edit : T) (t : Turned V T) (value : V) (answer : Result ℕ UpdateError) → Applies r s t edit value (Ended answer) → Leaves t
+  applies_leaves edit t value (Err (error.Refused code edition)) it = last_leaves t it.2
+  applies_leaves edit t value (Err (error.ValueTooLong len)) it = last_leaves t it.1
+  applies_leaves edit t value other it = absurd it
 
   row_leaves : (at : At V T) (t : Turned V T) (answer : Result ℕ UpdateError) → Row r s at t (Ended answer) → Leaves t
-  row_leaves First t (Err (HistoryFull entries weight)) it = stops_leave t it.2
-  row_leaves First t (Err NoMemory) it = stops_leave t it.2
-  row_leaves ReadingFirst t answer it = read_leaves (ToMigrations r s t) t answer (λ value gave no. absurd no) it
-  row_leaves (Migrating value) t (Err NoMemory) it = stops_leave t it
-  row_leaves Reading t answer it = read_leaves (Applies r s t) t answer (applies_leaves t) it
+  row_leaves (First edit) t (Err (HistoryFull entries weight)) it = stops_leave t it.2
+  row_leaves (First edit) t (Err NoMemory) it = stops_leave t it.2
+  row_leaves (ReadingFirst edit) t answer it = read_leaves (ToMigrations r s t edit) t answer (λ value gave no. absurd no) it
+  row_leaves (Migrating edit value) t (Err NoMemory) it = stops_leave t it
+  row_leaves (Reading edit) t answer it = read_leaves (Applies r s t edit) t answer (applies_leaves edit t) it
   row_leaves (Creating plan) t (Err (error.StorageFault place)) it = fails_leave t it.1
   row_leaves (Appending plan) t (Err (error.StorageFault place)) it = fails_leave t it.1
   row_leaves (SyncingScratch plan) t (Err (error.StorageFault place)) it = fails_leave t it.1
   row_leaves (Renaming plan) t (Err (error.StorageFault place)) it = fails_leave t it.1
-  row_leaves (SyncingFolder changed) t (Ok edition) it = last_leaves t it.1
-  row_leaves (SyncingFolder changed) t (Err (error.NotDurable place)) it = fails_leave t it.1
+  row_leaves (SyncingFolder ending) t (Ok edition) it = last_leaves t it.1
+  row_leaves (SyncingFolder ending) t (Err (error.NotDurable place)) it = fails_leave t it.1
   row_leaves at t other it = absurd it
 
   dying_leaves : (t : Turned V T) (answer : Result ℕ UpdateError) → EndsDying t (Ended answer) → Leaves t

@@ -1,5 +1,5 @@
 -- What a turn changes, in the words that the rows share.
-use Rattle.std.specs.Prelude.{◌≡◌, Bool, ℕ, ◌+◌, ◌-◌, ◌≤◌, List, [], ◌∷◌, ◌++◌, length, Option, Some, None, if◌then◌else◌}
+use Rattle.std.specs.Prelude.{◌≡◌, Bool, ℕ, ◌+◌, ◌-◌, ◌≤◌, List, [], ◌∷◌, ◌++◌, length, Option, Some, None, IsTrue, if◌then◌else◌}
 use Rattle.store_traits.specs.Faults.{Rose}
 use Rattle.store_traits.specs.declared.ids.CallId.{CallId}
 use Rattle.hist_journal.specs.declared.device.Device.TheVariants.{Folder}
@@ -51,7 +51,7 @@ module _ {V T : Type 0} where
 
   -- a device call went well and did this to the folder, entries of these kinds are added, and the call goes on
   pub record Does (t : Turned V T) (Makes : Contents → Contents → Type 0) (kinds : List (KindSeen V T)) (at : At V T) : Type 0 where
-    pub folder : Makes t.world.folder t.world_after.folder
+    pub folder : IsTrue t.world.told → Makes t.world.folder t.world_after.folder
     pub faults : t.world.faults ≤ t.world_after.faults
     pub world : t.world_after ≡
         record t.world {
@@ -63,7 +63,7 @@ module _ {V T : Type 0} where
 
   -- the same, and the lock is free and the call ends
   pub record DoesLast (t : Turned V T) (Makes : Contents → Contents → Type 0) (kinds : List (KindSeen V T)) : Type 0 where
-    pub folder : Makes t.world.folder t.world_after.folder
+    pub folder : IsTrue t.world.told → Makes t.world.folder t.world_after.folder
     pub faults : t.world.faults ≤ t.world_after.faults
     pub world : t.world_after ≡
         record t.world {
@@ -76,7 +76,7 @@ module _ {V T : Type 0} where
 
   -- a device call failed: it may have left this of the folder, its Fault is added with the new count, the lock is free, and the call ends
   pub record Fails (t : Turned V T) (Leaves : Contents → Contents → Type 0) : Type 0 where
-    pub folder : Leaves t.world.folder t.world_after.folder
+    pub folder : IsTrue t.world.told → Leaves t.world.folder t.world_after.folder
     pub count : Rose t.world.faults t.world_after.faults
     pub world : t.world_after ≡
         record t.world {

@@ -28,23 +28,23 @@ abbrev pub b : ℕ → CallId
 b number = record { node = n2; client = record { 0 = 2 }; number = number }
 
 abbrev pub update : CallId → ExampleEdit → Call ℕ ExampleEdit
-update id edit = record { id = id; edit = edit; at = First; since = None; room = 0 }
+update id edit = record { id = id; at = First edit; since = None; room = 0 }
 
--- the same call in the end, whose earliest turn found so many entries
-abbrev pub over : CallId → ExampleEdit → ℕ → Call ℕ ExampleEdit
-over id edit since = record { id = id; edit = edit; at = Gone; since = Some since; room = 0 }
+-- a call in the end, whose earliest turn found so many entries
+abbrev pub over : CallId → ℕ → Call ℕ ExampleEdit
+over id since = record { id = id; at = Gone; since = Some since; room = 0 }
 
 -- a folder in which a machine stop leaves main, and which had another main at the start
 abbrev pub holding : Option (List ℕ) → Option (List ℕ) → Contents
 holding first main = record { main = main; scratch = folder.Gone; kept = Images (main ∷ []); first = first; alone = true }
 
 abbrev pub at_start : Store ℕ (Unit {0}) → World ℕ ExampleEdit
-at_start s = record { folder = holding s.main s.main; sections = s.sections; owner = None; history = []; deaths = s.deaths; version = 0; faults = 0 }
+at_start s = record { told = true; folder = holding s.main s.main; sections = s.sections; owner = None; history = []; deaths = s.deaths; version = 0; faults = 0 }
 
 -- the lock is free, no death is left, and these are main, the history, the version and the count of faults
 abbrev pub at_end : Store ℕ (Unit {0}) → List ℕ → List Entry → ℕ → ℕ → World ℕ ExampleEdit
 at_end s main history version faults =
-    record { folder = holding s.main (Some main); sections = s.sections; owner = None; history = history; deaths = []; version = version; faults = faults }
+    record { told = true; folder = holding s.main (Some main); sections = s.sections; owner = None; history = history; deaths = []; version = version; faults = faults }
 
 abbrev pub times : ℕ → List Did → List Did
 times zero turns = []
@@ -69,7 +69,7 @@ abbrev pub two_nodes_start : Scene ℕ ExampleEdit
 two_nodes_start = record { world = at_start empty; calls = update (a 1) (Add 1) ∷ update (b 1) (Add 1) ∷ [] }
 
 abbrev pub two_nodes_end : Scene ℕ ExampleEdit
-two_nodes_end = record { world = at_end empty (2 ∷ []) lawful.two_nodes 2 0; calls = over (a 1) (Add 1) 0 ∷ over (b 1) (Add 1) 1 ∷ [] }
+two_nodes_end = record { world = at_end empty (2 ∷ []) lawful.two_nodes 2 0; calls = over (a 1) 0 ∷ over (b 1) 1 ∷ [] }
 
 -- 1 is set where it is there already
 abbrev pub equal_value : List Did
@@ -79,7 +79,7 @@ abbrev pub equal_value_start : Scene ℕ ExampleEdit
 equal_value_start = record { world = at_start holds_one; calls = update (a 1) (Set 1) ∷ [] }
 
 abbrev pub equal_value_end : Scene ℕ ExampleEdit
-equal_value_end = record { world = at_end holds_one (1 ∷ []) lawful.equal_value 0 0; calls = over (a 1) (Set 1) 0 ∷ [] }
+equal_value_end = record { world = at_end holds_one (1 ∷ []) lawful.equal_value 0 0; calls = over (a 1) 0 ∷ [] }
 
 -- a store in which the first call of client a kills its node before it syncs the scratch file
 abbrev pub deadly : Store ℕ (Unit {0})
@@ -98,7 +98,7 @@ abbrev pub death_end : Scene ℕ ExampleEdit
 death_end =
     record {
       world = at_end deadly (2 ∷ []) lawful.death_after_raise 2 0;
-      calls = over (a 1) (Set 1) 0 ∷ over (b 1) (Set 2) 0 ∷ over (a 2) (Set 3) 7 ∷ [];
+      calls = over (a 1) 0 ∷ over (b 1) 0 ∷ over (a 2) 7 ∷ [];
     }
 
 -- the rename of a call fails, and the next call of the client goes well
@@ -109,7 +109,7 @@ abbrev pub rename_fails_start : Scene ℕ ExampleEdit
 rename_fails_start = record { world = at_start empty; calls = update (a 1) (Set 1) ∷ update (a 2) (Set 2) ∷ [] }
 
 abbrev pub rename_fails_end : Scene ℕ ExampleEdit
-rename_fails_end = record { world = at_end empty (2 ∷ []) lawful.rename_fails 2 1; calls = over (a 1) (Set 1) 0 ∷ over (a 2) (Set 2) 3 ∷ [] }
+rename_fails_end = record { world = at_end empty (2 ∷ []) lawful.rename_fails 2 1; calls = over (a 1) 0 ∷ over (a 2) 3 ∷ [] }
 
 -- the sync of the folder fails behind the rename
 abbrev pub sync_fails : List Did
@@ -123,5 +123,5 @@ abbrev pub sync_fails_end : Scene ℕ ExampleEdit
 sync_fails_end =
     record {
       world = record (at_end empty (1 ∷ []) lawful.sync_fails 1 1) { folder = record (holding None (Some (1 ∷ []))) { kept = Images (None ∷ Some (1 ∷ []) ∷ []) } };
-      calls = over (a 1) (Set 1) 0 ∷ [];
+      calls = over (a 1) 0 ∷ [];
     }

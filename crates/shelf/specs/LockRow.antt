@@ -34,15 +34,15 @@ module _ {V T M : Type 0} (r : Rules V T) (s : Store V M) (t : Turned V T) where
     pub call : t.call_after ≡ t.call
 
   -- the call owns the lock, with room for what its holding can add
-  pub record Takes : Type 0 where
+  pub record Takes (edit : T) : Type 0 where
     pub free : IsFree
     pub bounds : IsOpen
     pub world : t.world_after ≡ record t.world { owner = Some t.call.id }
-    pub call : t.call_after ≡ record t.call { at = if is_ready_now t then Reading else ReadingFirst; room = most_entries (is_ready_now t) }
+    pub call : t.call_after ≡ record t.call { at = if is_ready_now t then Reading edit else ReadingFirst edit; room = most_entries (is_ready_now t) }
 
-  abbrev pub LockRow : Progress (Result ℕ UpdateError) → Type 0
-  LockRow Blocked = Waits
-  LockRow Moved = Takes
-  LockRow (Ended (Err (HistoryFull entries weight))) = IsFree × IsFull entries weight × Stops t
-  LockRow (Ended (Err NoMemory)) = IsFree × IsOpen × Stops t
-  LockRow other = ⊥
+  abbrev pub LockRow : T → Progress (Result ℕ UpdateError) → Type 0
+  LockRow edit Blocked = Waits
+  LockRow edit Moved = Takes edit
+  LockRow edit (Ended (Err (HistoryFull entries weight))) = IsFree × IsFull entries weight × Stops t
+  LockRow edit (Ended (Err NoMemory)) = IsFree × IsOpen × Stops t
+  LockRow edit other = ⊥

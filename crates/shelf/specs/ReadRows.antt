@@ -1,5 +1,5 @@
 -- I2 and I3: main is read, and its value goes through the migrations.
-use Rattle.std.specs.Prelude.{◌≡◌, ℕ, [], None, Result, Err}
+use Rattle.std.specs.Prelude.{◌≡◌, ℕ, [], None, IsTrue, Result, Err}
 use Rattle.store_traits.specs.declared.update_error.UpdateError.{UpdateError}
 use Rattle.store_traits.specs.declared.update_error.UpdateError.TheVariants as error
 use Rattle.hist_journal.specs.declared.seen.BaseSeen.{BaseSeen}
@@ -12,9 +12,9 @@ use Rattle.shelf.specs.Progress.{Progress, Moved, Ended}
 use Rattle.shelf.specs.World.{Rules, Turned}
 
 module _ {V T M : Type 0} (r : Rules V T) (s : Store V M) (t : Turned V T) where
-  -- main reads so
+  -- main reads so, where the folder tells what it holds
   abbrev pub MainReads : BaseSeen V → Type 0
-  MainReads = ReadsAs r.reads r.absent s.limits.file t.world.folder.main
+  MainReads base = IsTrue t.world.told → ReadsAs r.reads r.absent s.limits.file t.world.folder.main base
 
   -- main reads as a value, and this comes of it
   pub record ReadsValue (Then : V → Type 0) : Type 0 where
@@ -32,12 +32,12 @@ module _ {V T M : Type 0} (r : Rules V T) (s : Store V M) (t : Turned V T) where
   ReadRow Then other = ReadsValue (λ value. Then value other)
 
   -- I2: the value goes to the migrations
-  abbrev pub ToMigrations : V → Progress (Result ℕ UpdateError) → Type 0
-  ToMigrations value Moved = Does t Keeps [] (Migrating value)
-  ToMigrations value other = ⊥
+  abbrev pub ToMigrations : T → V → Progress (Result ℕ UpdateError) → Type 0
+  ToMigrations edit value Moved = Does t Keeps [] (Migrating edit value)
+  ToMigrations edit value other = ⊥
 
   -- I3, without migrations
-  abbrev pub MigrateRow : V → Progress (Result ℕ UpdateError) → Type 0
-  MigrateRow value Moved = (s.migrations ≡ []) × GoesOn t Finishing
-  MigrateRow value (Ended (Err error.NoMemory)) = Stops t
-  MigrateRow value other = ⊥
+  abbrev pub MigrateRow : T → Progress (Result ℕ UpdateError) → Type 0
+  MigrateRow edit Moved = (s.migrations ≡ []) × GoesOn t (Finishing edit)
+  MigrateRow edit (Ended (Err error.NoMemory)) = Stops t
+  MigrateRow edit other = ⊥

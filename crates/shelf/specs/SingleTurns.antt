@@ -5,15 +5,15 @@ use Rattle.folder_disk.specs.Contents.{Images}
 use Rattle.folder_disk.specs.Contents as folder
 use Rattle.shelf.specs.declared.examples.ExampleEdit.{ExampleEdit}
 use Rattle.shelf.specs.declared.examples.ExampleEdit.TheVariants.{Set}
-use Rattle.shelf.specs.Calls.{At, Call, First, ReadingFirst, Creating, SyncingScratch, SyncingFolder, Gone}
+use Rattle.shelf.specs.Calls.{At, Changed, Call, First, ReadingFirst, Creating, SyncingScratch, SyncingFolder, Gone}
 use Rattle.shelf.specs.ExampleStore as example
 use Rattle.shelf.specs.ExampleTurns.{a, b, at_start, deadly}
 use Rattle.shelf.specs.LawfulExamples as lawful
 use Rattle.shelf.specs.World.{Turned, World}
 
--- the first call of client a, which sets 1, at a step with room for so many entries
+-- the first call of client a, at a step with room for so many entries
 abbrev pub at_step : At ℕ ExampleEdit → ℕ → Call ℕ ExampleEdit
-at_step at room = record { id = a 1; edit = Set 1; at = at; since = Some 0; room = room }
+at_step at room = record { id = a 1; at = at; since = Some 0; room = room }
 
 abbrev pub gone : Call ℕ ExampleEdit
 gone = at_step Gone 0
@@ -45,7 +45,7 @@ owned = record (at_start example.empty) { owner = Some (b 1) }
 
 -- the call takes it all the same
 abbrev pub lock_taken_from_another : Turned ℕ ExampleEdit
-lock_taken_from_another = record { world = owned; call = at_step First 0; world_after = record owned { owner = Some (a 1) }; call_after = at_step ReadingFirst 1 }
+lock_taken_from_another = record { world = owned; call = at_step (First (Set 1)) 0; world_after = record owned { owner = Some (a 1) }; call_after = at_step (ReadingFirst (Set 1)) 1 }
 
 -- main was renamed, and a machine stop may still leave none
 abbrev pub renamed : World ℕ ExampleEdit
@@ -62,7 +62,7 @@ abbrev pub acknowledged_without_sync : Turned ℕ ExampleEdit
 acknowledged_without_sync =
     record {
       world = renamed;
-      call = at_step (SyncingFolder (Some 3)) 1;
+      call = at_step (SyncingFolder (Changed 3)) 1;
       world_after =
           record renamed {
             owner = None;

@@ -54,17 +54,17 @@ module _ {V T : Type 0} (t : Turned V T) where
 module _ {V T M : Type 0} (r : Rules V T) (s : Store V M) where
   -- the table: a row for each next step; a call that ended has none
   abbrev pub Row : At V T → Turned V T → Progress (Result ℕ UpdateError) → Type 0
-  Row First t = LockRow r s t
-  Row ReadingFirst t = ReadRow r s t (ToMigrations r s t)
-  Row (Migrating value) t = MigrateRow r s t value
-  Row Finishing t = FinishRow t
-  Row Reading t = ReadRow r s t (Applies r s t)
+  Row (First edit) t = LockRow r s t edit
+  Row (ReadingFirst edit) t = ReadRow r s t (ToMigrations r s t edit)
+  Row (Migrating edit value) t = MigrateRow r s t edit
+  Row (Finishing edit) t = FinishRow t edit
+  Row (Reading edit) t = ReadRow r s t (Applies r s t edit)
   Row (Raising plan) t = RaiseRow t plan
   Row (Creating plan) t = CreateRow t plan
   Row (Appending plan) t = AppendRow t plan
   Row (SyncingScratch plan) t = SyncScratchRow t plan
   Row (Renaming plan) t = RenameRow t plan
-  Row (SyncingFolder changed) t = SyncFolderRow t changed
+  Row (SyncingFolder ending) t = SyncFolderRow t ending
   Row Gone t = λ answer. ⊥
 
   -- a call that ended has no turn; a death of the node comes first, then one that is planned, then the row

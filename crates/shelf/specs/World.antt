@@ -1,5 +1,5 @@
 -- What a turn finds and leaves, and what its row works by.
-use Rattle.std.specs.Prelude.{◌≡◌, ℕ, List, [], ◌∷◌, length, min, ◌-◌, ◌^◌, Option, None, IsTrue}
+use Rattle.std.specs.Prelude.{◌≡◌, ℕ, Bool, List, [], ◌∷◌, length, min, ◌-◌, ◌^◌, Option, None, IsTrue}
 use Rattle.store_traits.specs.declared.applied.Applied.{Applied}
 use Rattle.store_traits.specs.declared.ids.CallId.{CallId}
 use Rattle.hist_journal.specs.declared.seen.EntrySeen.{EntrySeen}
@@ -22,8 +22,9 @@ pub record Rules (V T : Type 0) : Type 1 where
   -- what a transform weighs
   pub weight : T → ℕ
 
--- the version is that of the version word, `faults` the folder's count, and `deaths` those that are not used up
+-- the version is that of the version word, `faults` the folder's count, and `deaths` those that are not used up; `told` says whether the folder tells what it holds
 pub record World (V T : Type 0) : Type 0 where
+  pub told : Bool
   pub folder : Contents
   -- the old settings; no step changes them yet
   pub sections : List SectionSeen
@@ -42,9 +43,9 @@ pub record Turned (V T : Type 0) : Type 0 where
 
 -- a session of this store begins in this world
 pub record Begins {V T M : Type 0} (s : Store V M) (w : World V T) : Type 0 where
-  pub main : w.folder.main ≡ s.main
+  pub main : IsTrue w.told → w.folder.main ≡ s.main
   pub sections : w.sections ≡ s.sections
-  pub alone : IsTrue s.alone → w.folder.kept ≡ Images (s.main ∷ [])
+  pub alone : IsTrue w.told → IsTrue s.alone → w.folder.kept ≡ Images (s.main ∷ [])
   pub owner : w.owner ≡ None
   pub history : w.history ≡ []
   pub deaths : w.deaths ≡ s.deaths

@@ -1,12 +1,12 @@
 -- U3 to U7: the version is raised, and a change is written to the scratch file, synced and renamed over main.
-use Rattle.std.specs.Prelude.{◌≡◌, ◌+◌, ℕ, List, [], ◌∷◌, ◌++◌, length, Some, if◌then◌else◌, Result, Err, ◌==◌}
+use Rattle.std.specs.Prelude.{◌≡◌, ◌+◌, ℕ, List, [], ◌∷◌, ◌++◌, length, if◌then◌else◌, Result, Err, ◌==◌}
 use Rattle.store_traits.specs.declared.update_error.UpdateError.{UpdateError}
 use Rattle.store_traits.specs.declared.update_error.UpdateError.TheVariants.{StorageFault}
 use Rattle.hist_journal.specs.declared.seen.KindSeen.{KindSeen}
 use Rattle.hist_journal.specs.declared.seen.KindSeen.TheVariants.{Raise}
 use Rattle.folder_disk.specs.Contents.{Contents, Unsynced, Synced, scratch_bytes, ChangesScratch, LoosensScratch, renamed}
 use Rattle.scratch_rename.specs.Filling.{next_piece, filled_more}
-use Rattle.shelf.specs.Calls.{At, Plan, Creating, Appending, SyncingScratch, Renaming, SyncingFolder}
+use Rattle.shelf.specs.Calls.{At, Changed, Plan, Creating, Appending, SyncingScratch, Renaming, SyncingFolder}
 use Rattle.shelf.specs.Effects.{Does, Fails, Keeps, at_next, next_place, with_entries}
 use Rattle.shelf.specs.Progress.{Progress, Moved, Ended}
 use Rattle.shelf.specs.World.{Turned}
@@ -57,4 +57,4 @@ module _ {V T : Type 0} (t : Turned V T) where
   SyncScratchRow plan = FolderRow SyncsScratch [] (Renaming plan) LoosensScratch
 
   abbrev pub RenameRow : Plan V T → Progress (Result ℕ UpdateError) → Type 0
-  RenameRow plan = FolderRow Renames (plan.change ∷ []) (SyncingFolder (Some (next_place t.world))) Keeps
+  RenameRow plan = FolderRow Renames (plan.change ∷ []) (SyncingFolder (Changed (next_place t.world))) Keeps

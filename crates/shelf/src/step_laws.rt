@@ -1,12 +1,12 @@
 //! What holds of every turn, whatever codec and transforms the store has: each law is the contract of a function that does
 //! nothing.
-ghost use Rattle.std.specs.Prelude.{◌≡◌, ◌++◌, ℕ, List, false, Some, Result, Err};
+ghost use Rattle.std.specs.Prelude.{◌≡◌, ◌++◌, ℕ, List, false, true, Some, IsTrue, Result, Err};
 ghost use Rattle.store_traits.specs.declared.update_error.UpdateError.{UpdateError};
 ghost use Rattle.store_traits.specs.declared.update_error.UpdateError.TheVariants.{NoMemory};
 ghost use Rattle.file_lock.specs.Owner.{IsAnother};
 ghost use Rattle.hist_journal.specs.declared.seen.EntrySeen.{EntrySeen};
 ghost use Rattle.shelf.specs.declared.store.Store.{Store};
-ghost use Rattle.shelf.specs.Calls.{First, ended};
+ghost use Rattle.shelf.specs.Calls.{ended, is_first};
 ghost use Rattle.shelf.specs.Progress.{Progress, Blocked, Ended};
 ghost use Rattle.shelf.specs.Turn.{Turn, begin, has_died_by, dies_now};
 ghost use Rattle.shelf.specs.World.{Turned, rules_of};
@@ -17,16 +17,16 @@ use store_traits::{Codec, Transform};
 /// Then the world is as it was.
 pub fn turns_wait_exactly<C: Codec, T: Transform<Value = C::Value>, M>()
     ensures blocked { (c : C) (s : Store C.Value M) (t : Turned C.Value T) → Turn (rules_of T.after T.weight_of (C.encoded c) (C.reads c) (C.default_of c)) s t Blocked
-        → (has_died_by (begin t) ≡ false) × (dies_now (begin t) ≡ false) × (t.call.at ≡ First) × IsAnother t.world.owner t.call.id × (t.world_after ≡ t.world) }
+        → (has_died_by (begin t) ≡ false) × (dies_now (begin t) ≡ false) × (is_first t.call.at ≡ true) × IsAnother t.world.owner t.call.id × (t.world_after ≡ t.world) }
     ensures exactly { (c : C) (s : Store C.Value M) (t : Turned C.Value T) (gave : Progress (Result ℕ UpdateError))
         → Turn (rules_of T.after T.weight_of (C.encoded c) (C.reads c) (C.default_of c)) s t gave
-        → has_died_by (begin t) ≡ false → dies_now (begin t) ≡ false → t.call.at ≡ First → IsAnother t.world.owner t.call.id → gave ≡ Blocked }
+        → has_died_by (begin t) ≡ false → dies_now (begin t) ≡ false → is_first t.call.at ≡ true → IsAnother t.world.owner t.call.id → gave ≡ Blocked }
 {}
 
 /// A turn that ends with want of memory leaves folder and history as they were.
 pub fn want_of_memory_changes_nothing<C: Codec, T: Transform<Value = C::Value>, M>()
     ensures { (c : C) (s : Store C.Value M) (t : Turned C.Value T) → Turn (rules_of T.after T.weight_of (C.encoded c) (C.reads c) (C.default_of c)) s t (Ended (Err NoMemory))
-        → (t.world_after.folder ≡ t.world.folder) × (t.world_after.history ≡ t.world.history) }
+        → (IsTrue t.world.told → t.world_after.folder ≡ t.world.folder) × (t.world_after.history ≡ t.world.history) }
 {}
 
 /// A call that ends owns nothing and keeps no room, also where its node dies in that turn. Where the node died before, the

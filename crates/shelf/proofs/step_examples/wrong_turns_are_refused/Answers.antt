@@ -20,6 +20,6 @@ returns c =
       former_life_ends = (refl, refl, refl);
       former_life_goes_on = λ it. absurd it;
       lock_taken_from_another = λ it. it.free (λ same. (let client : 2 ≡ 1 = ap (λ (call : CallId). call.client.0) same in omega arith));
-      acknowledged_without_sync = λ it. (let count : 2 ≡ 1 = ap (λ (c : Contents). image_count c.kept) it.1.folder in omega arith);
+      acknowledged_without_sync = λ it. (let count : 2 ≡ 1 = ap (λ (c : Contents). image_count c.kept) (it.1.folder refl) in omega arith);
       lock_left_held = λ it. (let no : ◌≡◌ {A = Option CallId} (Some (a 1)) None = ap (λ (w : World ℕ ExampleEdit). w.owner) it.1.world in cc);
     }
