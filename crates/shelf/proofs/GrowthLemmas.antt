@@ -14,7 +14,8 @@ use Rattle.shelf.specs.Calls.{At, First, ReadingFirst, Migrating, Finishing, Rea
 use Rattle.shelf.specs.Effects.{Fails, Stops, with_entries}
 use Rattle.shelf.specs.Endings.{synced_kinds}
 use Rattle.shelf.specs.LastRows.{kept_edit}
-use Rattle.shelf.specs.Progress.{Progress, Moved, Blocked, Ended}
+use Rattle.shelf.specs.declared.progress.Progress.{Progress}
+use Rattle.shelf.specs.declared.progress.Progress.TheVariants.{Moved, Blocked, Ended}
 use Rattle.shelf.specs.ReadRows.{ReadRow, ToMigrations}
 use Rattle.shelf.specs.Turn.{EndsDead, EndsDying, Row, TurnBy, Turn, begin, has_died_by, dies_now}
 use Rattle.shelf.specs.World.{Rules, World, Turned}

@@ -27,7 +27,8 @@ use Rattle.shelf.specs.ExampleTurns.{rules}
 use Rattle.shelf.specs.Endings.{synced_kinds}
 use Rattle.shelf.specs.LastRows.{kept_edit, told_place}
 use Rattle.shelf.specs.LockRow.{most_entries}
-use Rattle.shelf.specs.Progress.{Progress, Moved, Blocked, Ended}
+use Rattle.shelf.specs.declared.progress.Progress.{Progress}
+use Rattle.shelf.specs.declared.progress.Progress.TheVariants.{Moved, Blocked, Ended}
 use Rattle.shelf.specs.Runs.{Did, Scene, Goes, Run}
 use Rattle.shelf.specs.Turn.{Row, TurnBy, begin, step_of, has_died_by, dies_now}
 use Rattle.shelf.specs.World.{World, Turned, weight_at}

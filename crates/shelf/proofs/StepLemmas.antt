@@ -15,7 +15,8 @@ use Rattle.shelf.specs.ApplyRow.{Applies}
 use Rattle.shelf.specs.Calls.{At, First, ReadingFirst, Migrating, Finishing, Reading, Raising, Creating, Appending, SyncingScratch, Renaming, SyncingFolder, Gone, ended, is_first, is_gone}
 use Rattle.shelf.specs.Effects.{DoesLast, Fails, Stops, freed}
 use Rattle.shelf.specs.LockRow.{LockRow, Waits}
-use Rattle.shelf.specs.Progress.{Progress, Moved, Blocked, Ended}
+use Rattle.shelf.specs.declared.progress.Progress.{Progress}
+use Rattle.shelf.specs.declared.progress.Progress.TheVariants.{Moved, Blocked, Ended}
 use Rattle.shelf.specs.ReadRows.{ReadRow, ToMigrations}
 use Rattle.shelf.specs.Turn.{EndsDying, Row, TurnBy, Turn, begin, has_died_by, dies_now}
 use Rattle.shelf.specs.World.{Rules, World, Turned}

@@ -10,7 +10,8 @@ use Rattle.shelf.specs.declared.store.Store.{Store}
 use Rattle.shelf.specs.Calls.{Kept, Plan, Raising, SyncingFolder}
 use Rattle.shelf.specs.Changes.{ChangesValue, KeepsValue}
 use Rattle.shelf.specs.Effects.{Does, Keeps, StopsReading}
-use Rattle.shelf.specs.Progress.{Progress, Moved, Ended}
+use Rattle.shelf.specs.declared.progress.Progress.{Progress}
+use Rattle.shelf.specs.declared.progress.Progress.TheVariants.{Moved, Ended}
 use Rattle.shelf.specs.World.{Rules, Turned}
 
 module _ {V T M : Type 0} (r : Rules V T) (s : Store V M) (t : Turned V T) (edit : T) where

@@ -12,7 +12,7 @@ use Rattle.shelf.specs.declared.store.Store.{Store}
 use Rattle.shelf.specs.Calls.{Call, First, Gone}
 use Rattle.shelf.specs.ExampleStore.{meanings, encoded, reads, empty, holds_one, Entry, n1, n2}
 use Rattle.shelf.specs.LawfulExamples as lawful
-use Rattle.shelf.specs.Progress.{Moved, Blocked, Ended}
+use Rattle.shelf.specs.declared.progress.Progress.TheVariants.{Moved, Blocked, Ended}
 use Rattle.shelf.specs.Runs.{Did, Scene}
 use Rattle.shelf.specs.World.{Rules, World}
 

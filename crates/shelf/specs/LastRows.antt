@@ -8,7 +8,8 @@ use Rattle.folder_disk.specs.Contents.{Contents, folder_synced}
 use Rattle.shelf.specs.Calls.{Ending, Changed, Kept, First}
 use Rattle.shelf.specs.Endings.{synced_kinds}
 use Rattle.shelf.specs.Effects.{DoesLast, Fails, Keeps, at_next, freed, next_place, with_entries}
-use Rattle.shelf.specs.Progress.{Progress, Moved, Ended}
+use Rattle.shelf.specs.declared.progress.Progress.{Progress}
+use Rattle.shelf.specs.declared.progress.Progress.TheVariants.{Moved, Ended}
 use Rattle.shelf.specs.World.{Turned}
 
 -- the transform that kept the value, which is told by a Same

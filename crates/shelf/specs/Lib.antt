@@ -26,7 +26,6 @@ pub mod OldSettings
 pub mod OpenRaise
 pub mod Opening
 pub mod Plans
-pub mod Progress
 pub mod ReadRows
 pub mod Readiness
 pub mod Runs

@@ -6,7 +6,8 @@ use Rattle.file_lock.specs.Owner.{IsAnother}
 use Rattle.shelf.specs.declared.store.Store.{Store}
 use Rattle.shelf.specs.Calls.{ReadingFirst, Reading}
 use Rattle.shelf.specs.Effects.{Stops, is_ready_now}
-use Rattle.shelf.specs.Progress.{Progress, Moved, Blocked, Ended}
+use Rattle.shelf.specs.declared.progress.Progress.{Progress}
+use Rattle.shelf.specs.declared.progress.Progress.TheVariants.{Moved, Blocked, Ended}
 use Rattle.shelf.specs.World.{Rules, Turned, weight_at}
 
 -- the most entries that a holding can add: an Inited or a Fault; or a Raise, an Edit and a Synced or a Fault

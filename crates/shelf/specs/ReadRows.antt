@@ -8,7 +8,8 @@ use Rattle.shelf.specs.declared.store.Store.{Store}
 use Rattle.shelf.specs.Base.{ReadsAs}
 use Rattle.shelf.specs.Calls.{Migrating, Finishing}
 use Rattle.shelf.specs.Effects.{Does, Fails, GoesOn, Keeps, Stops, StopsReading, next_place}
-use Rattle.shelf.specs.Progress.{Progress, Moved, Ended}
+use Rattle.shelf.specs.declared.progress.Progress.{Progress}
+use Rattle.shelf.specs.declared.progress.Progress.TheVariants.{Moved, Ended}
 use Rattle.shelf.specs.World.{Rules, Turned}
 
 module _ {V T M : Type 0} (r : Rules V T) (s : Store V M) (t : Turned V T) where

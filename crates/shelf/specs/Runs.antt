@@ -3,7 +3,7 @@ use Rattle.std.specs.Prelude.{◌≡◌, ℕ, List, [], ◌∷◌, Some, slice_g
 use Rattle.store_traits.specs.declared.update_error.UpdateError.{UpdateError}
 use Rattle.shelf.specs.declared.store.Store.{Store}
 use Rattle.shelf.specs.Calls.{Call}
-use Rattle.shelf.specs.Progress.{Progress}
+use Rattle.shelf.specs.declared.progress.Progress.{Progress}
 use Rattle.shelf.specs.Turn.{Turn}
 use Rattle.shelf.specs.World.{Rules, World}
 

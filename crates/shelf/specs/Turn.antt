@@ -13,7 +13,8 @@ use Rattle.shelf.specs.Deaths.{has_died, last_death, strikes, used_up}
 use Rattle.shelf.specs.Effects.{is_ready_now, next_place, with_entries}
 use Rattle.shelf.specs.LastRows.{FinishRow, SyncFolderRow}
 use Rattle.shelf.specs.LockRow.{LockRow}
-use Rattle.shelf.specs.Progress.{Progress, Ended}
+use Rattle.shelf.specs.declared.progress.Progress.{Progress}
+use Rattle.shelf.specs.declared.progress.Progress.TheVariants.{Ended}
 use Rattle.shelf.specs.ReadRows.{ReadRow, ToMigrations, MigrateRow}
 use Rattle.shelf.specs.World.{Rules, Turned}
 use Rattle.shelf.specs.WriteRows.{RaiseRow, CreateRow, AppendRow, SyncScratchRow, RenameRow}

@@ -8,7 +8,8 @@ use Rattle.folder_disk.specs.Contents.{Contents, Unsynced, Synced, scratch_bytes
 use Rattle.scratch_rename.specs.Filling.{next_piece, filled_more}
 use Rattle.shelf.specs.Calls.{At, Changed, Plan, Creating, Appending, SyncingScratch, Renaming, SyncingFolder}
 use Rattle.shelf.specs.Effects.{Does, Fails, Keeps, at_next, next_place, with_entries}
-use Rattle.shelf.specs.Progress.{Progress, Moved, Ended}
+use Rattle.shelf.specs.declared.progress.Progress.{Progress}
+use Rattle.shelf.specs.declared.progress.Progress.TheVariants.{Moved, Ended}
 use Rattle.shelf.specs.World.{Turned}
 
 -- the folder calls that go well

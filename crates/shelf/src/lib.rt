@@ -11,6 +11,7 @@ mod ledger;
 mod node_table;
 mod order_laws;
 mod parts;
+mod progress;
 mod setup;
 mod shelf;
 mod shelf_parts;
@@ -35,6 +36,7 @@ pub use order_laws::{
     calls_end, changes_are_raised, counts_rise, numbers_never_fall, updates_end_once,
 };
 pub use parts::{Parts, ValueOf};
+pub use progress::Progress;
 pub use setup::Setup;
 pub use shelf::Shelf;
 pub use shelf_parts::ShelfParts;

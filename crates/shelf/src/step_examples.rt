@@ -4,7 +4,7 @@ ghost use Rattle.std.specs.Prelude.{Ok, Err};
 ghost use Rattle.store_traits.specs.declared.update_error.UpdateError.TheVariants.{Died};
 ghost use Rattle.shelf.specs.ExampleStore as example;
 ghost use Rattle.shelf.specs.ExampleTurns as turns;
-ghost use Rattle.shelf.specs.Progress.{Moved, Ended};
+ghost use Rattle.shelf.specs.declared.progress.Progress.TheVariants.{Moved, Ended};
 ghost use Rattle.shelf.specs.Runs.{Run};
 ghost use Rattle.shelf.specs.SingleTurns as single;
 ghost use Rattle.shelf.specs.Turn.{Turn};

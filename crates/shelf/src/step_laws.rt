@@ -7,7 +7,8 @@ ghost use Rattle.file_lock.specs.Owner.{IsAnother};
 ghost use Rattle.hist_journal.specs.declared.seen.EntrySeen.{EntrySeen};
 ghost use Rattle.shelf.specs.declared.store.Store.{Store};
 ghost use Rattle.shelf.specs.Calls.{ended, is_first};
-ghost use Rattle.shelf.specs.Progress.{Progress, Blocked, Ended};
+ghost use Rattle.shelf.specs.declared.progress.Progress.{Progress};
+ghost use Rattle.shelf.specs.declared.progress.Progress.TheVariants.{Blocked, Ended};
 ghost use Rattle.shelf.specs.Turn.{Turn, begin, has_died_by, dies_now};
 ghost use Rattle.shelf.specs.World.{Turned, rules_of};
 
