@@ -1,11 +1,10 @@
 -- A call that goes on: what may be its next entry.
-use Rattle.std.proofs.Common.{◌≡◌, ◌∙◌, ◌⊎◌, Bool, true, false, ◌||◌, ◌&&◌, ◌==◌, nat_lt, not, ℕ, List, [], ◌∷◌, ◌++◌, Option, None, unwrap_or, refl, sym, ap, arith}
+use Rattle.std.proofs.Common.{◌≡◌, ◌∙◌, Bool, true, false, ◌||◌, ◌&&◌, ◌==◌, nat_lt, not, ℕ, List, [], ◌∷◌, ◌++◌, None, unwrap_or, refl, sym, ap, arith}
 use Rattle.std.specs.List.{list_any}
 use Rattle.std.proofs.lemmas.Bool.Decides.{nat_tests}
 use Rattle.std.proofs.lemmas.List.Folds.{list_any-append}
 use Rattle.store_traits.specs.declared.ids.CallId.{CallId}
 use Rattle.hist_journal.specs.declared.device.Device.TheVariants.{Folder}
-use Rattle.hist_journal.specs.declared.seen.BaseSeen.{BaseSeen}
 use Rattle.hist_journal.specs.declared.seen.BaseSeen.TheVariants.{Held}
 use Rattle.hist_journal.specs.declared.seen.EntrySeen.{EntrySeen}
 use Rattle.hist_journal.specs.declared.seen.KindSeen.{KindSeen}
@@ -17,7 +16,6 @@ use Rattle.shelf.specs.CallOrder.{KeepsOrder, is_ended_update, is_later}
 use Rattle.shelf.specs.Changes.{ChangesValue, KeepsValue}
 use Rattle.shelf.specs.Entries.{some_entry, is_any, is_fault_or_death, is_own, is_update}
 use Rattle.shelf.specs.Legal.{Fits, value_at}
-use Rattle.shelf.specs.Ledger.{is_inner}
 use Rattle.shelf.specs.Meanings.{Meanings}
 use Rattle.shelf.specs.OpenRaise.{has_open_raise}
 use Rattle.shelf.specs.ShelfTurns.{FaultFits}

@@ -1,30 +1,15 @@
 -- Which call is pending whatever others add meanwhile.
-use Rattle.std.proofs.Common.{◌≡◌, ◌∙◌, ◌≤◌, ℕ, Bool, true, false, ◌||◌, ◌&&◌, not, List, [], ◌∷◌, ◌++◌, drop, length, Option, Some, None, unwrap_or, cond, refl, sym, ap, append_assoc, append-nil}
+use Rattle.std.proofs.Common.{◌≡◌, ◌∙◌, Bool, true, false, ◌||◌, ◌&&◌, not, List, [], ◌∷◌, ◌++◌, Option, Some, None, cond, refl, sym}
 use Rattle.std.specs.List.{list_any}
-use Rattle.std.proofs.Math.Bool.{or-false}
-use Rattle.std.proofs.lemmas.Bool.{or_parts}
-use Rattle.std.proofs.lemmas.List.{drop-append-le}
-use Rattle.std.proofs.lemmas.List.Folds.{list_any-append}
-use Rattle.store_traits.specs.declared.applied.Applied.{Applied}
 use Rattle.store_traits.specs.declared.ids.CallId.{CallId}
-use Rattle.store_traits.specs.declared.ids.NodeId.{NodeId}
-use Rattle.hist_journal.specs.declared.seen.BaseSeen.{BaseSeen}
 use Rattle.hist_journal.specs.declared.seen.EntrySeen.{EntrySeen}
-use Rattle.hist_journal.specs.declared.seen.KindSeen.{KindSeen}
-use Rattle.hist_journal.specs.declared.seen.KindSeen.TheVariants.{Fault, Death, Restart}
-use Rattle.hist_journal.specs.Folds.{edition_of, raises_of, value_of}
 use Rattle.hist_journal.specs.Kinds.{is_call, is_change, is_death_of, is_fault, is_raise}
-use Rattle.hist_journal.specs.Nodes.{is_dead, is_ready, ready_mark}
-use Rattle.hist_journal.specs.Quiet.{ends, has_raise, pending, pending_after, still_pending}
-use Rattle.hist_journal.proofs.FoldLemmas.{edition_of-other, raises_of-other, value_of-other}
-use Rattle.hist_journal.proofs.NodeLemmas.{is_ready-push}
+use Rattle.hist_journal.specs.Quiet.{ends, has_raise, pending, still_pending}
 use Rattle.hist_journal.proofs.QuietLemmas.{pending-push}
-use Rattle.shelf.specs.CallOrder.{is_ended_update, is_later}
-use Rattle.shelf.specs.Deaths.{died_since, has_died}
-use Rattle.shelf.specs.Entries.{some_entry, is_any, is_fault_or_death, is_own, is_update}
-use Rattle.shelf.specs.Meanwhile.{NoDeathOf, NoneOf, are_outer, is_outer}
-use Rattle.shelf.proofs.Bools.{both_parts, never, or_second}
-use Rattle.shelf.proofs.MeanwhileLemmas.{carried, other_parts, outer_parts, outer_raises_nothing, spared_parts}
+use Rattle.shelf.specs.Entries.{is_own}
+use Rattle.shelf.specs.Meanwhile.{NoDeathOf, NoneOf, are_outer}
+use Rattle.shelf.proofs.Bools.{never, or_second}
+use Rattle.shelf.proofs.MeanwhileLemmas.{carried, other_parts, outer_is_neither, outer_parts, spared_parts}
 use Rattle.shelf.proofs.StepLemmas.{itself}
 
 -- what is of no such call ends nothing of it, unless it is a Death of its node
@@ -32,6 +17,7 @@ ends_nothing : (own is_end dies : Bool) → (own && true) ≡ false → dies ≡
 ends_nothing false is_end dies other spared = spared
 ends_nothing true is_end dies other spared = never (sym other)
 
+-- what was not ended is what it was
 unless : (ended : Bool) (p : Option CallId) (call : CallId) → cond ended None p ≡ Some call → p ≡ Some call
 unless false p call is = is
 unless true p call is = absurd (cc)
@@ -44,12 +30,12 @@ was_pending false who call is_ended None other is = is
 was_pending false who call is_ended (Some d) other is = unless (is_ended d) (Some d) call is
 
 -- the pending call is that of a Raise
-raised_here : (behind raises ended raised : Bool) (who call : CallId) (p : Option CallId) → (p ≡ Some call → raised ≡ true)
-    → cond behind p (cond (raises && ended) (Some who) None) ≡ Some call → ((is_call call who && raises) || raised) ≡ true
-raised_here true raises ended raised who call p rest is = or_second (is_call call who && raises) raised (rest is)
+raised_here : (behind raises is_open raised : Bool) (who call : CallId) (p : Option CallId) → (p ≡ Some call → raised ≡ true)
+    → cond behind p (cond (raises && is_open) (Some who) None) ≡ Some call → ((is_call call who && raises) || raised) ≡ true
+raised_here true raises is_open raised who call p rest is = or_second (is_call call who && raises) raised (rest is)
 raised_here false true true raised who call p rest is = let same : who ≡ call = cc in rw (same, itself call) refl
 raised_here false true false raised who call p rest is = absurd (cc)
-raised_here false false ended raised who call p rest is = absurd (cc)
+raised_here false false is_open raised who call p rest is = absurd (cc)
 
 module _ {V T : Type 0} where
   -- a call that is pending stays so
@@ -63,7 +49,7 @@ module _ {V T : Type 0} where
           let outer_too = outer_parts e es fit.0 in
           let other_too = other_parts call e es fit.1 in
           let spared_too = spared_parts call.node e es fit.2 in
-          let unraised : is_raise e.kind ≡ false = outer_raises_nothing e.kind outer_too.0 in
+          let unraised : is_raise e.kind ≡ false = (outer_is_neither e.kind outer_too.0).1 in
           let unended : ends call e ≡ false = ends_nothing (is_call call e.who) (is_change e.kind || is_fault e.kind) (is_death_of call.node e.kind) other_too.0 spared_too.0 in
           (λ was. rw (pending-push xs e, unraised, was, unended) refl, (outer_too.1, other_too.1, spared_too.1))
 
