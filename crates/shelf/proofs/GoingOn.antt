@@ -1,11 +1,10 @@
 -- A call that goes on: what may be its next entry.
-use Rattle.std.proofs.Common.{◌≡◌, ◌∙◌, ◌⊎◌, Bool, true, false, ◌||◌, ◌&&◌, ◌==◌, nat_lt, not, ℕ, List, [], ◌∷◌, ◌++◌, Option, None, unwrap_or, refl, sym, ap, arith}
+use Rattle.std.proofs.Common.{◌≡◌, ◌∙◌, Bool, true, false, ◌||◌, ◌&&◌, ◌==◌, nat_lt, not, ℕ, List, [], ◌∷◌, ◌++◌, None, unwrap_or, refl, sym, ap, arith}
 use Rattle.std.specs.List.{list_any}
 use Rattle.std.proofs.lemmas.Bool.Decides.{nat_tests}
 use Rattle.std.proofs.lemmas.List.Folds.{list_any-append}
 use Rattle.store_traits.specs.declared.ids.CallId.{CallId}
 use Rattle.hist_journal.specs.declared.device.Device.TheVariants.{Folder}
-use Rattle.hist_journal.specs.declared.seen.BaseSeen.{BaseSeen}
 use Rattle.hist_journal.specs.declared.seen.BaseSeen.TheVariants.{Held}
 use Rattle.hist_journal.specs.declared.seen.EntrySeen.{EntrySeen}
 use Rattle.hist_journal.specs.declared.seen.KindSeen.{KindSeen}
@@ -13,15 +12,15 @@ use Rattle.hist_journal.specs.declared.seen.KindSeen.TheVariants.{Raise, Edit, S
 use Rattle.hist_journal.specs.Nodes.{death_mark, is_dead, is_ready, last_mark}
 use Rattle.hist_journal.proofs.NodeLemmas.{is_dead-push}
 use Rattle.shelf.specs.declared.store.Store.{Store}
-use Rattle.shelf.specs.CallOrder.{EndsUpdate, KeepsOrder, is_ended_update, is_later}
+use Rattle.shelf.specs.CallOrder.{KeepsOrder, is_ended_update, is_later}
 use Rattle.shelf.specs.Changes.{ChangesValue, KeepsValue}
-use Rattle.shelf.specs.Entries.{some_entry, is_any, is_fault_or_death, is_own, is_update, is_update_end}
+use Rattle.shelf.specs.Entries.{some_entry, is_any, is_fault_or_death, is_own, is_update}
 use Rattle.shelf.specs.Legal.{Fits, value_at}
-use Rattle.shelf.specs.Ledger.{is_inner}
 use Rattle.shelf.specs.Meanings.{Meanings}
 use Rattle.shelf.specs.OpenRaise.{has_open_raise}
 use Rattle.shelf.specs.ShelfTurns.{FaultFits}
 use Rattle.shelf.proofs.Bools.{never}
+use Rattle.shelf.proofs.LateCallLemmas.{EndsOn, late_synced_fits, late_fault}
 use Rattle.shelf.proofs.PendingLemmas.{has_open_raise-push}
 use Rattle.shelf.proofs.StepLemmas.{itself}
 
@@ -84,7 +83,7 @@ module _ {V T : Type 0} (call : CallId) where
   ordered list kind g = record { numbers = g.numbers; goes_on = g.unended; update = λ has. never (sym g.unchanged ∙ has) }
 
   -- the update has nothing of its call behind it
-  none_ended : (list : List (EntrySeen V T)) → list_any (is_own is_update call) list ≡ false → some_entry (is_ended_update call) list ≡ false
+  pub none_ended : (list : List (EntrySeen V T)) → list_any (is_own is_update call) list ≡ false → some_entry (is_ended_update call) list ≡ false
   none_ended [] none = refl
   none_ended (e ∷ es) none = by_head (is_own is_update call e) (list_any (is_own is_any call) es) (list_any (is_own is_update call) es) (some_entry (is_ended_update call) es) none (none_ended es)
     where
@@ -104,6 +103,27 @@ module _ {V T : Type 0} (call : CallId) where
       by_head : (update behind updates ended : Bool) → (update || updates) ≡ false → (updates ≡ false → ended ≡ false) → ((update && behind) || ended) ≡ false
       by_head true behind updates ended none rest = absurd cc
       by_head false behind updates ended none rest = rest none
+
+  update_ends_nothing : (kind : KindSeen V T) → is_update kind ≡ true → is_fault_or_death kind ≡ false
+  update_ends_nothing (Edit t) update = refl
+  update_ends_nothing (Same t) update = refl
+  update_ends_nothing other update = never update
+
+  update_kills_nothing : (kind : KindSeen V T) → is_update kind ≡ true → death_mark call.node kind ≡ None
+  update_kills_nothing (Edit t) update = refl
+  update_kills_nothing (Same t) update = refl
+  update_kills_nothing other update = never update
+
+  -- behind its update the call ends
+  pub ends_on_update : (list : List (EntrySeen V T)) (kind : KindSeen V T) → GoesOn list → is_update kind ≡ true → EndsOn call (list ++ record { who = call; kind = kind } ∷ [])
+  ends_on_update list kind g update =
+      let e : EntrySeen V T = record { who = call; kind = kind } in
+      record {
+        lives = is_dead-push call.node list e ∙ (ap (λ mark. unwrap_or mark (is_dead call.node list)) (update_kills_nothing kind update) ∙ g.lives);
+        numbers = one_more (is_later call) list e g.numbers (not_later (call.client.0 == call.client.0) call.number);
+        unended = one_more (is_own is_fault_or_death call) list e g.unended (own_none _ _ (update_ends_nothing kind update));
+        first = none_ended-push list e g.unchanged;
+      }
 
   module _ {M : Type 0} (m : Meanings V T) (s : Store V M) (list : List (EntrySeen V T)) (g : GoesOn list) where
     pub raise_fits : Fits m s list (record { who = call; kind = Raise })
@@ -134,39 +154,13 @@ module _ {V T : Type 0} (call : CallId) where
     same_fits t ready keeps =
         record { value = keeps; raised = never; lifetimes = record { lives = g.lives; named = tt }; order = ordered list (Same t) g; readiness = ready; settings = tt; counts = tt }
 
-    updates_end : (kind last : KindSeen V T) → is_update_end last ≡ true → EndsUpdate (list ++ record { who = call; kind = kind } ∷ []) (record { who = call; kind = last })
-    updates_end kind last ends = record { ends = ends; first = none_ended-push list (record { who = call; kind = kind }) g.unchanged }
-
     -- what ends an update whose entry is the last one
     module _ (kind : KindSeen V T) (update : is_update kind ≡ true) where
-      after_update : (last : KindSeen V T) → is_update_end last ≡ true → KeepsOrder (list ++ record { who = call; kind = kind } ∷ []) (record { who = call; kind = last })
-      after_update last ends =
-          record {
-            numbers = one_more (is_later call) list (record { who = call; kind = kind }) g.numbers (not_later (call.client.0 == call.client.0) call.number);
-            goes_on = one_more (is_own is_fault_or_death call) list (record { who = call; kind = kind }) g.unended (own_none _ _ (no_end kind update));
-            update = λ has. updates_end kind last ends;
-          }
-        where
-          no_end : (kind : KindSeen V T) → is_update kind ≡ true → is_fault_or_death kind ≡ false
-          no_end (Edit t) update = refl
-          no_end (Same t) update = refl
-          no_end other update = never update
-
-      still_lives : is_dead call.node (list ++ record { who = call; kind = kind } ∷ []) ≡ false
-      still_lives = is_dead-push call.node list (record { who = call; kind = kind }) ∙ (ap (λ mark. unwrap_or mark (is_dead call.node list)) (no_death kind update) ∙ g.lives)
-        where
-          no_death : (kind : KindSeen V T) → is_update kind ≡ true → death_mark call.node kind ≡ None
-          no_death (Edit t) update = refl
-          no_death (Same t) update = refl
-          no_death other update = never update
-
       pub synced_fits : Fits m s (list ++ record { who = call; kind = kind } ∷ []) (record { who = call; kind = Synced })
-      synced_fits = record { value = tt; raised = never; lifetimes = record { lives = still_lives; named = tt }; order = after_update Synced refl; readiness = tt; settings = tt; counts = tt }
+      synced_fits = late_synced_fits call m s (list ++ record { who = call; kind = kind } ∷ []) (ends_on_update list kind g update)
 
       pub late_fault_fits : FaultFits m s call (list ++ record { who = call; kind = kind } ∷ [])
-      late_fault_fits =
-          λ count rose.
-          record { value = tt; raised = never; lifetimes = record { lives = still_lives; named = tt }; order = after_update (Fault Folder count) refl; readiness = tt; settings = tt; counts = rose }
+      late_fault_fits = late_fault call m s (list ++ record { who = call; kind = kind } ∷ []) (ends_on_update list kind g update)
 
   -- a Raise is open behind itself
   pub raise_opens : (list : List (EntrySeen V T)) → has_open_raise call (list ++ record { who = call; kind = Raise } ∷ []) ≡ true

@@ -9,12 +9,15 @@ pub mod GoingOn
 pub mod GrowthLemmas
 pub mod ImageLemmas
 pub mod KeptLemmas
+pub mod LateCallLemmas
 pub mod LedgerLemmas
 pub mod LegalLemmas
+pub mod MeanwhileLemmas
 pub mod NodeStateLemmas
 pub mod OpeningLemmas
 pub mod OrderLemmas
 pub mod PendingLemmas
+pub mod PendingMeanwhile
 pub mod Played
 pub mod RaiseLemmas
 pub mod ReadingLemmas

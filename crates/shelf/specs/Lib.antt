@@ -21,6 +21,7 @@ pub mod Lifetimes
 pub mod Loading
 pub mod LockRow
 pub mod Meanings
+pub mod Meanwhile
 pub mod NodeStates
 pub mod OldSettings
 pub mod OpenRaise
