@@ -74,10 +74,14 @@ module _ {V T M : Type 0} (r : Rules V T) (s : Store V M) where
     pub given : s.handler ≡ Some new
     pub long : IsPastLimit new len
 
-  -- behind all that was shown to the client; what migrations make joins these, once there are some
-  pub record IsTooLong (shown : ℕ) (edit : T) (len : ℕ) (front : List (EntrySeen V T)) : Type 0 where
+  -- this holds of a prefix that has all that was shown to the client
+  pub record IsSince (shown : ℕ) (Holds : List (EntrySeen V T) → Type 0) (front : List (EntrySeen V T)) : Type 0 where
     pub fresh : shown ≤ edition_of front
-    pub long : MakesTooLong edit len front ⊎ ReplacesTooLong len
+    pub holds : Holds front
+
+  -- what migrations make joins these, once there are some
+  abbrev pub IsTooLong : T → ℕ → List (EntrySeen V T) → Type 0
+  IsTooLong edit len front = MakesTooLong edit len front ⊎ ReplacesTooLong len
 
   -- the history has these numbers, and one has reached its bound
   pub record IsFull (entries weight : ℕ) (front : List (EntrySeen V T)) : Type 0 where
@@ -95,7 +99,7 @@ module _ {V T M : Type 0} (r : Rules V T) (s : Store V M) where
   HasCause shown call edit (error.Refused code edition) = HasFront (IsRefused edit code edition)
   HasCause shown call edit error.Corrupt = λ list. IsUnreadable
   HasCause shown call edit (error.FileTooLong len) = λ list. s.base ≡ TooLong len
-  HasCause shown call edit (error.ValueTooLong len) = HasFront (IsTooLong shown edit len)
+  HasCause shown call edit (error.ValueTooLong len) = HasFront (IsSince shown (IsTooLong edit len))
   HasCause shown call edit (error.HistoryFull entries weight) = HasFront (IsFull entries weight)
   HasCause shown call edit (error.StorageFault at) = IsFaulted call at
   HasCause shown call edit (error.NotDurable at) = λ list. IsUncertain call at list ⊎ IsUncertainSame call edit at list
@@ -104,13 +108,13 @@ module _ {V T M : Type 0} (r : Rules V T) (s : Store V M) where
   HasCause shown call edit error.NoMemory = λ list. Unit {0}
 
   -- why a read is answered so
-  abbrev pub HasReadCause : CallId → ReadError → List (EntrySeen V T) → Type 0
-  HasReadCause call read.Corrupt = λ list. IsUnreadable
-  HasReadCause call (read.FileTooLong len) = λ list. s.base ≡ TooLong len
-  HasReadCause call (read.ValueTooLong len) = λ list. ReplacesTooLong len
-  HasReadCause call (read.HistoryFull entries weight) = HasFront (IsFull entries weight)
-  HasReadCause call (read.StorageFault at) = IsFaulted call at
-  HasReadCause call (read.NotDurable at) = IsUncertain call at
-  HasReadCause call (read.LegacyFault at) = StandsAt (is_own (is_fault_of Legacy) call) at
-  HasReadCause call (read.Died at) = IsDead call at
-  HasReadCause call read.NoMemory = λ list. Unit {0}
+  abbrev pub HasReadCause : (shown : ℕ) → CallId → ReadError → List (EntrySeen V T) → Type 0
+  HasReadCause shown call read.Corrupt = λ list. IsUnreadable
+  HasReadCause shown call (read.FileTooLong len) = λ list. s.base ≡ TooLong len
+  HasReadCause shown call (read.ValueTooLong len) = HasFront (IsSince shown (λ front. ReplacesTooLong len))
+  HasReadCause shown call (read.HistoryFull entries weight) = HasFront (IsFull entries weight)
+  HasReadCause shown call (read.StorageFault at) = IsFaulted call at
+  HasReadCause shown call (read.NotDurable at) = IsUncertain call at
+  HasReadCause shown call (read.LegacyFault at) = StandsAt (is_own (is_fault_of Legacy) call) at
+  HasReadCause shown call (read.Died at) = IsDead call at
+  HasReadCause shown call read.NoMemory = λ list. Unit {0}
