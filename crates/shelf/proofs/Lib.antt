@@ -1,5 +1,6 @@
 pub mod BaseSets
 pub mod Bools
+pub mod CauseLemmas
 pub mod Computed
 pub mod DeathLemmas
 pub mod EndingLemmas

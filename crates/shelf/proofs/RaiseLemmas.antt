@@ -12,7 +12,7 @@ use Rattle.shelf.proofs.Bools.{both_parts, not_true, or_either, or_second}
 use Rattle.shelf.specs.OpenRaise.{spends, is_open_raise, has_open_raise}
 
 -- a stronger test passes nothing where the weaker passes nothing
-none_of_fewer : {X : Type 0} (p q : X → Bool) (xs : List X) → ((x : X) → q x ≡ false → p x ≡ false) → list_any q xs ≡ false → list_any p xs ≡ false
+pub none_of_fewer : {X : Type 0} (p q : X → Bool) (xs : List X) → ((x : X) → q x ≡ false → p x ≡ false) → list_any q xs ≡ false → list_any p xs ≡ false
 none_of_fewer p q [] weaker none = refl
 none_of_fewer p q (x ∷ xs) weaker none =
     let parts = or_parts (q x) (list_any q xs) none in

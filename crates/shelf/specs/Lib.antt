@@ -1,8 +1,10 @@
+pub mod Acknowledged
 pub mod AddsNode
 pub mod ApplyRow
 pub mod Base
 pub mod CallOrder
 pub mod Calls
+pub mod Causes
 pub mod Changes
 pub mod Deaths
 pub mod Effects
@@ -26,6 +28,7 @@ pub mod NodeStates
 pub mod OldSettings
 pub mod OpenRaise
 pub mod Opening
+pub mod Places
 pub mod Plans
 pub mod ReadRows
 pub mod Readiness

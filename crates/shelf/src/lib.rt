@@ -4,6 +4,7 @@
 //! Its one contract above: a lawful history stays lawful exactly where its next entry fits (`laws`).
 #![tactic(auto)]
 
+mod answer_laws;
 mod answers;
 mod examples;
 mod laws;
@@ -23,6 +24,7 @@ mod store;
 #[cfg(test)]
 mod tests;
 
+pub use answer_laws::{causes_stay, updates_stay};
 pub use answers::{AddNodeError, Loaded, PlanMade, Taken, Want};
 pub use examples::{
     ExampleEdit, histories_are_lawful, histories_are_unlawful, histories_come_to,

@@ -1,0 +1,32 @@
+//! What the history of a session shows of an answer, it still shows at the end of the session. `over` says that no entry
+//! behind is of a call of the client up to this one: each client makes its calls in order.
+ghost use Rattle.std.specs.Prelude.{◌≡◌, ℕ, ◌++◌, List, false};
+ghost use Rattle.std.specs.List.{list_any};
+ghost use Rattle.store_traits.specs.declared.ids.CallId.{CallId};
+ghost use Rattle.store_traits.specs.declared.read_error.ReadError.{ReadError};
+ghost use Rattle.store_traits.specs.declared.update_error.UpdateError.{UpdateError};
+ghost use Rattle.hist_journal.specs.declared.seen.EntrySeen.{EntrySeen};
+ghost use Rattle.shelf.specs.declared.store.Store.{Store};
+ghost use Rattle.shelf.specs.Acknowledged.{IsUpdated};
+ghost use Rattle.shelf.specs.Causes.{HasCause, HasReadCause};
+ghost use Rattle.shelf.specs.Entries.{is_any, is_own};
+ghost use Rattle.shelf.specs.Places.{is_up_to};
+ghost use Rattle.shelf.specs.World.{rules_of};
+
+use store_traits::{Codec, Transform};
+
+/// An update stays acknowledged, with its edition, where no entry behind is of its call.
+pub fn updates_stay<V, T>()
+    ensures { (call : CallId) (edit : T) (edition : ℕ) (list more : List (EntrySeen V T)) → list_any (is_own is_any call) more ≡ false
+        → IsUpdated call edit edition list → IsUpdated call edit edition (list ++ more) }
+{}
+
+/// An error keeps its cause.
+pub fn causes_stay<C: Codec, T: Transform<Value = C::Value>, M>()
+    ensures update { (c : C) (s : Store C.Value M) (call : CallId) (list more : List (EntrySeen C.Value T)) → list_any (is_up_to call) more ≡ false
+        → (shown : ℕ) (edit : T) (err : UpdateError) → let r = rules_of T.after T.weight_of (C.encoded c) (C.reads c) (C.default_of c) in
+        HasCause r s shown call edit err list → HasCause r s shown call edit err (list ++ more) }
+    ensures read { (c : C) (s : Store C.Value M) (call : CallId) (list more : List (EntrySeen C.Value T)) → list_any (is_up_to call) more ≡ false
+        → (shown : ℕ) (err : ReadError) → let r = rules_of T.after T.weight_of (C.encoded c) (C.reads c) (C.default_of c) in
+        HasReadCause r s shown call err list → HasReadCause r s shown call err (list ++ more) }
+{}
