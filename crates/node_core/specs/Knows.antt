@@ -1,0 +1,72 @@
+-- What an update knows of the world between two of its turns.
+use Rattle.std.specs.Prelude.{◌≡◌, ◌↔◌, ◌≤◌, ℕ, true, false, not, List, ◌++◌, length, Some, IfSome, IsTrue}
+use Rattle.std.specs.List.{list_any}
+use Rattle.hist_journal.specs.declared.seen.BaseSeen.{BaseSeen}
+use Rattle.hist_journal.specs.declared.seen.BaseSeen.TheVariants.{Held}
+use Rattle.hist_journal.specs.declared.seen.EntrySeen.{EntrySeen}
+use Rattle.hist_journal.specs.Folds.{value_after}
+use Rattle.hist_journal.specs.Nodes.{is_ready}
+use Rattle.hist_journal.specs.Quiet.{pending}
+use Rattle.folder_disk.specs.Contents.{Contents, Unsynced, Synced}
+use Rattle.shelf.specs.declared.store.Store.{Store}
+use Rattle.shelf.specs.CallOrder.{is_later}
+use Rattle.shelf.specs.Calls.{At, Call, First, ReadingFirst, Migrating, Finishing, Reading, Raising, Creating, Appending, SyncingScratch, Renaming, SyncingFolder, Gone, Changed, Kept, Plan}
+use Rattle.shelf.specs.Changes.{KeepsValue, MakesValue}
+use Rattle.shelf.specs.Legal.{value_at}
+use Rattle.shelf.specs.World.{Rules, World}
+use Rattle.node_core.specs.Own.{OwnEntries}
+use Rattle.node_core.specs.Plans.{PlanAt}
+use Rattle.node_core.specs.Phases.{is_holding, is_initialising, is_raised, room_at}
+
+module _ {V T M : Type 0} (r : Rules V T) (s : Store V M) where
+  -- the plan is the text of the value that its change makes of the one now
+  pub record IsDue (list : List (EntrySeen V T)) (plan : Plan V T) : Type 0 where
+    pub value : V
+    pub allowed : MakesValue r.meanings.after s.handler (value_at r.meanings s list) plan.change
+    pub makes : value_after r.meanings.after (value_at r.meanings s list) plan.change ≡ Held value
+    pub text : plan.text.written ++ plan.text.rest ≡ r.encoded value
+
+  -- so much of it is in the scratch file
+  pub record IsInScratch (folder : Contents) (list : List (EntrySeen V T)) (plan : Plan V T) : Type 0 where
+    pub due : IsDue list plan
+    pub scratch : folder.scratch ≡ Unsynced plan.text.written
+
+  -- all of it is, and on the disk
+  pub record IsOnDisk (folder : Contents) (list : List (EntrySeen V T)) (plan : Plan V T) : Type 0 where
+    pub due : IsDue list plan
+    pub scratch : folder.scratch ≡ Synced plan.text.written
+
+  -- there is a value
+  pub record IsReadable (list : List (EntrySeen V T)) : Type 0 where
+    pub value : V
+    pub held : value_at r.meanings s list ≡ Held value
+
+  -- what the call knows of contents, by its next step
+  abbrev pub KnowsContents : At V T → Contents → List (EntrySeen V T) → Type 0
+  KnowsContents (Migrating edit value) folder list = value_at r.meanings s list ≡ Held value
+  KnowsContents (Finishing edit) folder list = IsReadable list
+  KnowsContents (Raising plan) folder list = IsDue list plan
+  KnowsContents (Creating plan) folder list = IsDue list plan
+  KnowsContents (Appending plan) folder list = IsInScratch folder list plan
+  KnowsContents (SyncingScratch plan) folder list = IsInScratch folder list plan
+  KnowsContents (Renaming plan) folder list = IsOnDisk folder list plan
+  KnowsContents (SyncingFolder (Kept edit)) folder list = KeepsValue r.meanings.after s.handler (value_at r.meanings s list) edit
+  KnowsContents other folder list = Unit {0}
+
+  -- a call that owns the lock, with the room that its step needs; its node is initialised, or is not
+  pub record Holds (w : World V T) (c : Call V T) : Type 0 where
+    pub owns : w.owner ≡ Some c.id
+    pub room : c.room ≡ room_at c.at
+    pub ready : is_ready c.id.node w.history ≡ not (is_initialising c.at)
+
+  pub record Knows (w : World V T) (c : Call V T) : Type 0 where
+    -- its earliest turn is past, or still to come
+    pub began : IfSome c.since (λ entries. entries ≤ length w.history)
+    -- no later call of its client was told of
+    pub numbers : list_any (is_later c.id) w.history ≡ false
+    pub entries : OwnEntries c.id c.at w.history
+    pub plan : PlanAt c.at
+    -- its Raise is open, or is not
+    pub raised : (is_raised c.at ≡ true) ↔ (pending w.history ≡ Some c.id)
+    pub holds : is_holding c.at ≡ true → Holds w c
+    pub contents : IsTrue w.told → KnowsContents c.at w.folder w.history
