@@ -4,4 +4,7 @@ pub mod Own
 pub mod Phases
 pub mod Plans
 pub mod Reading
+pub mod Ready
+pub mod Steps
 pub mod StepsLeft
+pub mod Views

@@ -117,8 +117,8 @@ module _ (s : Store ℕ (Unit {0})) where
     call_then (Finishing edit) Moved = at_next 1 (First edit) c
     call_then (Reading edit) Moved = at_next 0 (applied_at edit) c
     call_then (Raising plan) Moved = at_next 1 (Creating plan) c
-    call_then (Creating plan) Moved = at_next 0 (filling before plan) c
-    call_then (Appending plan) Moved = at_next 0 (filling before (piece_written before plan)) c
+    call_then (Creating plan) Moved = at_next 0 (filling plan) c
+    call_then (Appending plan) Moved = at_next 0 (filling (piece_written plan)) c
     call_then (SyncingScratch plan) Moved = at_next 0 (Renaming plan) c
     call_then (Renaming plan) Moved = at_next 1 (SyncingFolder (ChangedAt (next_place w))) c
     call_then at (Ended answer) = ended c

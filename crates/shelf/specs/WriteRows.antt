@@ -25,19 +25,20 @@ SyncsScratch old new = ChangesScratch (Synced (scratch_bytes old.scratch)) old n
 abbrev pub Renames : Contents → Contents → Type 0
 Renames old new = new ≡ renamed old
 
-module _ {V T : Type 0} (t : Turned V T) where
-  -- a folder call that goes well or fails: what it makes of the folder, which entries the turn adds then, and what comes next; and what a failure leaves
-  abbrev pub FolderRow : (Contents → Contents → Type 0) → List (KindSeen V T) → At V T → (Contents → Contents → Type 0) → Progress (Result ℕ UpdateError) → Type 0
-  FolderRow Makes kinds at Leaves Moved = Does t Makes kinds at
-  FolderRow Makes kinds at Leaves (Ended (Err (StorageFault place))) = (place ≡ next_place t.world) × Fails t Leaves
-  FolderRow Makes kinds at Leaves other = ⊥
-
+module _ {V T : Type 0} where
   -- U5 while bytes are left, then U6
   abbrev pub filling : Plan V T → At V T
   filling plan = if length plan.text.rest == 0 then SyncingScratch plan else Appending plan
 
   abbrev pub piece_written : Plan V T → Plan V T
   piece_written plan = record plan { text = filled_more plan.text }
+
+module _ {V T : Type 0} (t : Turned V T) where
+  -- a folder call that goes well or fails: what it makes of the folder, which entries the turn adds then, and what comes next; and what a failure leaves
+  abbrev pub FolderRow : (Contents → Contents → Type 0) → List (KindSeen V T) → At V T → (Contents → Contents → Type 0) → Progress (Result ℕ UpdateError) → Type 0
+  FolderRow Makes kinds at Leaves Moved = Does t Makes kinds at
+  FolderRow Makes kinds at Leaves (Ended (Err (StorageFault place))) = (place ≡ next_place t.world) × Fails t Leaves
+  FolderRow Makes kinds at Leaves other = ⊥
 
   -- the version word and the history are raised together
   pub record Raises (plan : Plan V T) : Type 0 where

@@ -1,0 +1,94 @@
+-- A call and the world that it goes in, in the words of the step table.
+use Rattle.std.specs.Prelude.{ℕ, List, [], Option, Some, None, if◌then◌else◌}
+use Rattle.store_traits.specs.declared.codec.Codec as codec_trait
+use Rattle.store_traits.specs.declared.ids.CallId.{CallId}
+use Rattle.store_traits.specs.declared.transform.Transform as transform_trait
+use Rattle.folder_disk.specs.declared.folder.Folder as folder_trait
+use Rattle.hist_journal.specs.declared.seen.KindSeen.{KindSeen}
+use Rattle.hist_journal.specs.Folds.{raises_of}
+use Rattle.hist_journal.specs.Kinds.{is_call}
+use Rattle.hist_journal.specs.View.{kind_seen}
+use Rattle.scratch_rename.specs.Filling.{Filling}
+use Rattle.shelf.specs.Calls.{At, Call, Plan}
+use Rattle.shelf.specs.Calls as at
+use Rattle.shelf.specs.ShelfSeen.{ShelfSeen}
+use Rattle.shelf.specs.World.{World, Turned}
+use Rattle.node_core.specs.declared.ending.Ending.{Ending}
+use Rattle.node_core.specs.declared.ending.Ending.TheVariants as ending
+use Rattle.node_core.specs.declared.init_call.InitCall.{InitCall}
+use Rattle.node_core.specs.declared.init_call.InitCall.TheVariants as init
+use Rattle.node_core.specs.declared.origin.Origin.{Origin}
+use Rattle.node_core.specs.declared.update_call.State.{State}
+use Rattle.node_core.specs.declared.update_call.State.TheVariants as state
+use Rattle.node_core.specs.declared.write_call.WriteCall.{WriteCall}
+use Rattle.node_core.specs.declared.write_call.WriteCall.TheVariants as write
+
+-- the room of the lock's owner, if this call is it
+abbrev pub room_of : CallId → Option CallId → ℕ → ℕ
+room_of call None room = 0
+room_of call (Some owner) room = if is_call call owner then room else 0
+
+abbrev pub ending_seen : {T : Type 0} → Ending T → at.Ending T
+ending_seen (ending.Changed place) = at.Changed place
+ending_seen (ending.Kept edit) = at.Kept edit
+
+module _ {V T : Type 0} where
+  -- a plan of which nothing is written, one that is being written, and one that is written
+  abbrev pub unwritten : KindSeen V T → List ℕ → Plan V T
+  unwritten change bytes = record { change = change; text = record { written = []; rest = bytes } }
+
+  abbrev pub filled : KindSeen V T → Filling → Plan V T
+  filled change text = record { change = change; text = text }
+
+  abbrev pub whole : KindSeen V T → List ℕ → Plan V T
+  whole change bytes = record { change = change; text = record { written = bytes; rest = [] } }
+
+module _ {P C T F V : Type 0} where
+  abbrev pub write_seen : WriteCall P C T F V → At V T
+  write_seen (write.Raise plan change) = at.Raising (unwritten (kind_seen change) plan)
+  write_seen (write.Create plan change) = at.Creating (unwritten (kind_seen change) plan)
+  write_seen (write.Append plan change) = at.Appending (filled (kind_seen change) plan)
+  write_seen (write.SyncScratch plan change) = at.SyncingScratch (filled (kind_seen change) plan)
+  write_seen (write.Rename plan change) = at.Renaming (whole (kind_seen change) plan)
+
+  abbrev pub init_seen : T → InitCall P C T F V → At V T
+  init_seen edit init.Read = at.ReadingFirst edit
+  init_seen edit (init.Migrate value) = at.Migrating edit value.value
+  init_seen edit init.Finish = at.Finishing edit
+
+  abbrev pub state_seen : State P C T F V → At V T
+  state_seen (state.First edit) = at.First edit
+  state_seen (state.Initialise edit init) = init_seen edit init
+  state_seen (state.Read edit) = at.Reading edit
+  state_seen (state.Write write) = write_seen write
+  state_seen (state.Sync ending) = at.SyncingFolder (ending_seen ending)
+  state_seen state.Gone = at.Gone
+
+module _ {C F V T : Type 0} (f : folder_trait.Ghosts F) where
+  -- the world of a shelf: no death is planned yet, there are no old settings, and the version word has the number of raises
+  abbrev pub world_seen : ShelfSeen C F V T → World V T
+  world_seen s =
+      record {
+        told = f.told;
+        folder = f.contents s.folder;
+        sections = [];
+        owner = s.owner;
+        history = s.list;
+        deaths = [];
+        version = raises_of s.list;
+        faults = (f.tally s.folder).count;
+      }
+
+  -- a call of this origin at this step
+  abbrev pub call_seen : Origin → At V T → ShelfSeen C F V T → Call V T
+  call_seen origin at s = record { id = origin.call; at = at; since = origin.since; room = room_of origin.call s.owner s.room }
+
+  -- one turn of it
+  abbrev pub turned : Origin → At V T → ShelfSeen C F V T → Origin → At V T → ShelfSeen C F V T → Turned V T
+  turned origin at s origin_after at_after s_after =
+      record {
+        world = world_seen s;
+        call = call_seen origin at s;
+        world_after = world_seen s_after;
+        call_after = call_seen origin_after at_after s_after;
+      }

@@ -1,0 +1,150 @@
+ghost use Rattle.std.specs.Prelude.{◌≡◌, false};
+ghost use Rattle.hist_journal.specs.Folds.{raises_of};
+ghost use Rattle.hist_journal.specs.Nodes.{is_dead};
+ghost use Rattle.hist_journal.specs.View.{kind_seen};
+ghost use Rattle.shelf.specs.Calls as at;
+ghost use Rattle.shelf.specs.ShelfSeen.{shelf_seen};
+ghost use Rattle.shelf.specs.WriteRows.{filling};
+ghost use Rattle.node_core.specs.Ready.{Ready};
+ghost use Rattle.node_core.specs.Steps.{WriteRow, WriteEquips};
+ghost use Rattle.node_core.specs.Views.{unwritten, whole, filled, write_seen};
+
+use super::{WriteCall, Written};
+use crate::origin::Origin;
+use hist_journal::Kind;
+use scratch_rename::{Filled, Fresh, Synced};
+use shelf::{Parts, Shelf, ValueOf};
+use store_traits::Word;
+
+impl<P: Parts> WriteCall<P> {
+    /// The next step of a call of this origin, which owns the lock.
+    pub fn step<W: Word>(
+        self,
+        origin: Origin,
+        shelf: &mut Shelf<P>,
+        word: &mut W,
+    ) -> Written<P>
+        requires word { W.ready (W.made word.old) }
+        requires number { W.number word.old ≡ raises_of (shelf_seen shelf.old).list }
+        requires ready { Ready P.C.Codec P.T.Transform P.F.Folder origin (write_seen self) (shelf_seen shelf.old) }
+        requires lives { is_dead origin.call.node (shelf_seen shelf.old).list ≡ false }
+        ensures row { WriteRow P.C.Codec P.T.Transform P.F.Folder origin (write_seen self) (shelf_seen shelf.old) result (shelf_seen shelf.new) }
+        ensures equips { WriteEquips P.C.Codec P.T.Transform P.F.Folder result (shelf_seen shelf.new) }
+        ensures number { W.number word.new ≡ raises_of (shelf_seen shelf.new).list }
+        ensures made { W.made word.new ≡ W.made word.old }
+    {
+        match self {
+            WriteCall::Raise { plan, change } => raise(origin, shelf, word, plan, change),
+            WriteCall::Create { plan, change } => create(origin, shelf, plan, change),
+            WriteCall::Append { plan, change } => append(origin, shelf, plan, change),
+            WriteCall::SyncScratch { plan, change } => sync_scratch(origin, shelf, plan, change),
+            WriteCall::Rename { plan, change } => rename(origin, shelf, plan, change),
+        }
+    }
+}
+
+/// The version word is raised, before anybody can see another value.
+fn raise<P: Parts, W: Word>(
+    origin: Origin,
+    shelf: &mut Shelf<P>,
+    word: &mut W,
+    plan: Fresh,
+    change: Kind<ValueOf<P>, P::T>,
+) -> Written<P>
+    requires word { W.ready (W.made word.old) }
+    requires number { W.number word.old ≡ raises_of (shelf_seen shelf.old).list }
+    requires ready { Ready P.C.Codec P.T.Transform P.F.Folder origin (at.Raising (unwritten (kind_seen change) plan)) (shelf_seen shelf.old) }
+    requires lives { is_dead origin.call.node (shelf_seen shelf.old).list ≡ false }
+    ensures row { WriteRow P.C.Codec P.T.Transform P.F.Folder origin (at.Raising (unwritten (kind_seen change) plan)) (shelf_seen shelf.old) result (shelf_seen shelf.new) }
+    ensures equips { WriteEquips P.C.Codec P.T.Transform P.F.Folder result (shelf_seen shelf.new) }
+    ensures number { W.number word.new ≡ raises_of (shelf_seen shelf.new).list }
+    ensures made { W.made word.new ≡ W.made word.old }
+{
+    shelf.raise(word, origin.call);
+    Written::Moved(WriteCall::Create { plan, change })
+}
+
+fn create<P: Parts>(
+    origin: Origin,
+    shelf: &mut Shelf<P>,
+    plan: Fresh,
+    change: Kind<ValueOf<P>, P::T>,
+) -> Written<P>
+    requires ready { Ready P.C.Codec P.T.Transform P.F.Folder origin (at.Creating (unwritten (kind_seen change) plan)) (shelf_seen shelf.old) }
+    requires lives { is_dead origin.call.node (shelf_seen shelf.old).list ≡ false }
+    ensures row { WriteRow P.C.Codec P.T.Transform P.F.Folder origin (at.Creating (unwritten (kind_seen change) plan)) (shelf_seen shelf.old) result (shelf_seen shelf.new) }
+    ensures equips { WriteEquips P.C.Codec P.T.Transform P.F.Folder result (shelf_seen shelf.new) }
+    ensures raises { raises_of (shelf_seen shelf.new).list ≡ raises_of (shelf_seen shelf.old).list }
+{
+    match shelf.create(origin.call, plan) {
+        Ok(plan) => Written::Moved(filling(plan, change)),
+        Err(at) => Written::Faulted { at },
+    }
+}
+
+fn append<P: Parts>(
+    origin: Origin,
+    shelf: &mut Shelf<P>,
+    plan: Filled,
+    change: Kind<ValueOf<P>, P::T>,
+) -> Written<P>
+    requires ready { Ready P.C.Codec P.T.Transform P.F.Folder origin (at.Appending (filled (kind_seen change) plan)) (shelf_seen shelf.old) }
+    requires lives { is_dead origin.call.node (shelf_seen shelf.old).list ≡ false }
+    ensures row { WriteRow P.C.Codec P.T.Transform P.F.Folder origin (at.Appending (filled (kind_seen change) plan)) (shelf_seen shelf.old) result (shelf_seen shelf.new) }
+    ensures equips { WriteEquips P.C.Codec P.T.Transform P.F.Folder result (shelf_seen shelf.new) }
+    ensures raises { raises_of (shelf_seen shelf.new).list ≡ raises_of (shelf_seen shelf.old).list }
+{
+    match shelf.append(origin.call, plan) {
+        Ok(plan) => Written::Moved(filling(plan, change)),
+        Err(at) => Written::Faulted { at },
+    }
+}
+
+fn sync_scratch<P: Parts>(
+    origin: Origin,
+    shelf: &mut Shelf<P>,
+    plan: Filled,
+    change: Kind<ValueOf<P>, P::T>,
+) -> Written<P>
+    requires ready { Ready P.C.Codec P.T.Transform P.F.Folder origin (at.SyncingScratch (filled (kind_seen change) plan)) (shelf_seen shelf.old) }
+    requires lives { is_dead origin.call.node (shelf_seen shelf.old).list ≡ false }
+    ensures row { WriteRow P.C.Codec P.T.Transform P.F.Folder origin (at.SyncingScratch (filled (kind_seen change) plan)) (shelf_seen shelf.old) result (shelf_seen shelf.new) }
+    ensures equips { WriteEquips P.C.Codec P.T.Transform P.F.Folder result (shelf_seen shelf.new) }
+    ensures raises { raises_of (shelf_seen shelf.new).list ≡ raises_of (shelf_seen shelf.old).list }
+{
+    match shelf.sync_scratch(origin.call, plan) {
+        Ok(plan) => Written::Moved(WriteCall::Rename { plan, change }),
+        Err(at) => Written::Faulted { at },
+    }
+}
+
+fn rename<P: Parts>(
+    origin: Origin,
+    shelf: &mut Shelf<P>,
+    plan: Synced,
+    change: Kind<ValueOf<P>, P::T>,
+) -> Written<P>
+    requires ready { Ready P.C.Codec P.T.Transform P.F.Folder origin (at.Renaming (whole (kind_seen change) plan)) (shelf_seen shelf.old) }
+    requires lives { is_dead origin.call.node (shelf_seen shelf.old).list ≡ false }
+    ensures row { WriteRow P.C.Codec P.T.Transform P.F.Folder origin (at.Renaming (whole (kind_seen change) plan)) (shelf_seen shelf.old) result (shelf_seen shelf.new) }
+    ensures equips { WriteEquips P.C.Codec P.T.Transform P.F.Folder result (shelf_seen shelf.new) }
+    ensures raises { raises_of (shelf_seen shelf.new).list ≡ raises_of (shelf_seen shelf.old).list }
+{
+    match shelf.rename(origin.call, plan, change) {
+        Ok(_) => Written::Changed {
+            at: shelf.journal().len(),
+        },
+        Err(at) => Written::Faulted { at },
+    }
+}
+
+/// The next step of a scratch file that has these bytes.
+fn filling<P: Parts>(plan: Filled, change: Kind<ValueOf<P>, P::T>) -> WriteCall<P>
+    ensures { write_seen result ≡ filling (filled (kind_seen change) plan) }
+{
+    if plan.rest() > 0 {
+        WriteCall::Append { plan, change }
+    } else {
+        WriteCall::SyncScratch { plan, change }
+    }
+}
