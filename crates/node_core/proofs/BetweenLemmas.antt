@@ -1,0 +1,129 @@
+-- What an update knows stays so, whatever others do between two of its turns.
+use Rattle.std.proofs.Common.{◌≡◌, ◌∙◌, inl, inr, ◌≤◌, ℕ, Bool, true, false, List, ◌++◌, length, Option, Some, None, IfSome, IsTrue, append_assoc, refl, sym, ap, arith}
+use Rattle.std.proofs.lemmas.List.{length-append}
+use Rattle.std.proofs.lemmas.List.Folds.{list_any-append}
+use Rattle.hist_journal.specs.declared.seen.EntrySeen.{EntrySeen}
+use Rattle.hist_journal.specs.Quiet.{pending}
+use Rattle.folder_disk.specs.Contents.{Contents}
+use Rattle.shelf.specs.declared.store.Store.{Store}
+use Rattle.shelf.specs.CallOrder.{is_later}
+use Rattle.shelf.specs.Calls.{At, Call, First, Migrating, Finishing, Raising, Creating, Appending, SyncingScratch, Renaming, SyncingFolder, Gone, Changed, Kept, Plan}
+use Rattle.shelf.specs.Deaths.{has_died}
+use Rattle.shelf.specs.Entries.{is_any}
+use Rattle.shelf.specs.Legal.{value_at}
+use Rattle.shelf.specs.Meanwhile.{NoDeathOf, NoneOf}
+use Rattle.shelf.specs.World.{Rules, World}
+use Rattle.shelf.proofs.Bools.{never}
+use Rattle.shelf.proofs.MeanwhileLemmas.{no_death, own, ready, value}
+use Rattle.shelf.proofs.PendingMeanwhile.{pending_stays, pending_was}
+use Rattle.node_core.specs.Between.{Between, Undisturbed}
+use Rattle.node_core.specs.Knows.{Holds, IsDue, IsInScratch, Knows, KnowsContents}
+use Rattle.node_core.specs.Own.{OwnEntries, is_late}
+use Rattle.node_core.specs.Phases.{is_holding, is_raised}
+
+module _ {V T : Type 0} where
+  -- a call whose Raise is open owns the lock
+  pub raised_holds : (at : At V T) → is_raised at ≡ true → is_holding at ≡ true
+  raised_holds (First edit) is = never is
+  raised_holds Gone is = never is
+  raised_holds other is = refl
+
+  -- its earliest turn is still past where entries came
+  still_began : (since : Option ℕ) (list more : List (EntrySeen V T)) → IfSome since (λ entries. entries ≤ length list) → IfSome since (λ entries. entries ≤ length (list ++ more))
+  still_began None list more began = tt
+  still_began (Some entries) list more began = omega (arith, length-append list more, began)
+
+  -- its entries are those that it had
+  same_entries : (c : Call V T) (at : At V T) (list more : List (EntrySeen V T)) → NoneOf c.id more → OwnEntries c.id at list → OwnEntries c.id at (list ++ more)
+  same_entries c (SyncingFolder (Changed place)) list more none has =
+      record {
+        before = has.before;
+        edit = has.edit;
+        behind = has.behind ++ more;
+        is = rw has.is (append_assoc has.before _ more);
+        early = has.early;
+        last = own is_any c.id has.behind more none ∙ has.last;
+        counted = has.counted;
+      }
+  same_entries c other list more none early = own is_late c.id list more none ∙ early
+
+  module _ (c : Call V T) (last now : World V T) (b : Between c last now) (entries : ℕ) (begun : c.since ≡ Some entries) (began : entries ≤ length last.history) (alive : has_died c.id.node c.since now.history ≡ false) where
+    -- its node did not die
+    spared : NoDeathOf c.id.node b.more
+    spared =
+        let lives : has_died c.id.node (Some entries) now.history ≡ false = ap (λ since. has_died c.id.node since now.history) (sym begun) ∙ alive in
+        no_death c.id.node entries last.history b.more (ap (has_died c.id.node (Some entries)) (sym b.grew) ∙ lives) began
+
+    -- nothing of what it owns was disturbed
+    undisturbed : is_holding c.at ≡ true → Undisturbed last now b.more
+    undisturbed is = elim (b.held is) [ inl kept ↦ kept | inr died ↦ never (sym spared ∙ died) ]
+
+module _ {V T M : Type 0} (r : Rules V T) (s : Store V M) where
+  -- what is known of contents hangs on the value and on the scratch file alone
+  module _ (folder folder_now : Contents) (list list_now : List (EntrySeen V T)) (scratch : folder_now.scratch ≡ folder.scratch) (same : value_at r.meanings s list_now ≡ value_at r.meanings s list) where
+    still_due : (plan : Plan V T) → IsDue r s list plan → IsDue r s list_now plan
+    still_due plan due = record { value = due.value; allowed = rw same due.allowed; makes = rw same due.makes; text = due.text }
+
+    still_in_scratch : (plan : Plan V T) → IsInScratch r s folder list plan → IsInScratch r s folder_now list_now plan
+    still_in_scratch plan it = record { due = still_due plan it.due; scratch = scratch ∙ it.scratch }
+
+    same_contents : (at : At V T) → KnowsContents r s at folder list → KnowsContents r s at folder_now list_now
+    same_contents (Migrating edit value) it = same ∙ it
+    same_contents (Finishing edit) it = record { value = it.value; held = same ∙ it.held }
+    same_contents (Raising plan) it = still_due plan it
+    same_contents (Creating plan) it = still_due plan it
+    same_contents (Appending plan) it = still_in_scratch plan it
+    same_contents (SyncingScratch plan) it = still_in_scratch plan it
+    same_contents (Renaming plan) it = record { due = still_due plan it.due; scratch = scratch ∙ it.scratch }
+    same_contents (SyncingFolder (Kept edit)) it = rw same it
+    same_contents other it = tt
+
+  -- a call that owns nothing knows nothing of contents
+  nothing_known : (at : At V T) (folder : Contents) (list : List (EntrySeen V T)) → is_holding at ≡ false → KnowsContents r s at folder list
+  nothing_known (First edit) folder list is = tt
+  nothing_known Gone folder list is = tt
+  nothing_known other folder list is = never (sym is)
+
+  module _ (c : Call V T) (last now : World V T) (k : Knows r s last c) (b : Between c last now) (alive : has_died c.id.node c.since now.history ≡ false) where
+    -- what an owner has meanwhile
+    undisturbed_owner : (h : Holds r s last c) → (is_holding c.at ≡ true) → NoDeathOf c.id.node b.more × Undisturbed last now b.more
+    undisturbed_owner h is =
+        let began : h.begun.0 ≤ length last.history = rw h.begun.1 at k.began in
+        (spared c last now b h.begun.0 h.begun.1 began alive, undisturbed c last now b h.begun.0 h.begun.1 began alive is)
+
+    still_holds : is_holding c.at ≡ true → Holds r s now c
+    still_holds is =
+        let h = k.holds is in
+        let facts = undisturbed_owner h is in
+        record {
+          owns = facts.1.owner ∙ h.owns;
+          room = h.room;
+          ready = rw b.grew (ready c.id.node last.history b.more facts.1.outer facts.0 ∙ h.ready);
+          begun = h.begun;
+        }
+
+    still_raised : is_raised c.at ≡ true → pending now.history ≡ Some c.id
+    still_raised is =
+        let holding = raised_holds c.at is in
+        let facts = undisturbed_owner (k.holds holding) holding in
+        rw b.grew (pending_stays c.id last.history b.more facts.1.outer b.others facts.0 (k.raised.0 is))
+
+    still_known : (b : Bool) → is_holding c.at ≡ b → IsTrue now.told → KnowsContents r s c.at now.folder now.history
+    still_known false is told = nothing_known c.at now.folder now.history is
+    still_known true is told =
+        let facts = undisturbed_owner (k.holds is) is in
+        let told_then : IsTrue last.told = rw b.told at told in
+        let same : value_at r.meanings s now.history ≡ value_at r.meanings s last.history = rw b.grew (value r.meanings.after s.base last.history b.more facts.1.outer) in
+        same_contents last.folder now.folder last.history now.history (facts.1.scratch told_then) same c.at (k.contents told_then)
+
+    pub between_keeps_knowledge : Knows r s now c
+    between_keeps_knowledge =
+        record {
+          began = rw b.grew (still_began c.since last.history b.more k.began);
+          numbers = rw b.grew (list_any-append (is_later c.id) last.history b.more ∙ rw (k.numbers, b.numbers) refl);
+          entries = rw b.grew (same_entries c c.at last.history b.more b.others k.entries);
+          plan = k.plan;
+          raised = (still_raised, λ is. k.raised.1 (pending_was c.id last.history b.more b.others (rw b.grew at is)));
+          holds = still_holds;
+          contents = λ told. still_known (is_holding c.at) refl told;
+        }
