@@ -1,0 +1,2 @@
+pub mod KeepingOn
+pub mod KeepingReads
