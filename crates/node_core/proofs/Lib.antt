@@ -1,2 +1,3 @@
 pub mod KeepingOn
 pub mod KeepingReads
+pub mod KeepingWrites
