@@ -1,5 +1,5 @@
 -- What a call knows as it raises the version, writes its plan to the scratch file, and changes the value.
-use Rattle.std.proofs.Common.{◌≡◌, ◌∙◌, ◌==◌, ◌≤◌, ◌<◌, ◌+◌, ℕ, Bool, true, false, not, IsTrue, List, [], ◌∷◌, ◌++◌, Option, Some, None, unwrap_or, length, take, drop, append_assoc, refl, sym, ap, arith, if◌then◌else◌}
+use Rattle.std.proofs.Common.{◌≡◌, ◌∙◌, ◌==◌, ◌+◌, Bool, true, false, IsTrue, List, [], ◌∷◌, ◌++◌, Option, Some, None, unwrap_or, length, take, drop, append_assoc, refl, sym, ap, arith, if◌then◌else◌}
 use Rattle.std.proofs.lemmas.Bool.Decides.{nat_tests}
 use Rattle.std.proofs.lemmas.List.{nil_from_length, take-append-drop}
 use Rattle.store_traits.specs.declared.ids.CallId.{CallId}
@@ -7,7 +7,7 @@ use Rattle.store_traits.specs.declared.ids.NodeId.{NodeId}
 use Rattle.hist_journal.specs.declared.seen.EntrySeen.{EntrySeen}
 use Rattle.hist_journal.specs.declared.seen.KindSeen.{KindSeen}
 use Rattle.hist_journal.specs.declared.seen.KindSeen.TheVariants.{Edit, Raise}
-use Rattle.hist_journal.specs.Kinds.{is_call, is_change, is_raise}
+use Rattle.hist_journal.specs.Kinds.{is_raise}
 use Rattle.hist_journal.specs.Nodes.{is_ready, ready_mark}
 use Rattle.hist_journal.specs.Quiet.{ends, pending}
 use Rattle.hist_journal.proofs.FoldLemmas.{value_of-other}
@@ -16,15 +16,15 @@ use Rattle.hist_journal.proofs.QuietLemmas.{pending-push}
 use Rattle.folder_disk.specs.Contents.{Contents, Synced, Unsynced, scratch_bytes}
 use Rattle.scratch_rename.specs.Filling.{next_piece}
 use Rattle.shelf.specs.declared.store.Store.{Store}
-use Rattle.shelf.specs.Calls.{At, Call, Raising, Creating, Appending, SyncingScratch, Renaming, SyncingFolder, Changed, Plan}
-use Rattle.shelf.specs.Effects.{Does, at_next, next_place}
+use Rattle.shelf.specs.Calls.{At, Raising, Creating, Appending, SyncingScratch, Renaming, SyncingFolder, Changed, Plan}
+use Rattle.shelf.specs.Effects.{Does, next_place}
 use Rattle.shelf.specs.Legal.{value_at}
 use Rattle.shelf.specs.WriteRows.{Appends, Creates, Raises, Renames, SyncsScratch, filling, piece_written}
 use Rattle.shelf.specs.World.{Rules, World, Turned}
 use Rattle.shelf.proofs.Bools.{never}
 use Rattle.shelf.proofs.LedgerLemmas.{quiet_ended}
 use Rattle.shelf.proofs.StepLemmas.{itself}
-use Rattle.node_core.specs.Knows.{Holds, IsDue, IsInScratch, Knows, KnowsContents}
+use Rattle.node_core.specs.Knows.{IsDue, IsInScratch, Knows, KnowsContents}
 use Rattle.node_core.specs.Own.{HasChanged, IsEarly, OwnEntries}
 use Rattle.node_core.specs.Phases.{is_holding, is_initialising, is_raised, room_at}
 use Rattle.node_core.specs.Plans.{HasEdit, PlanAt}
@@ -61,17 +61,17 @@ module _ {V T M : Type 0} (r : Rules V T) (s : Store V M) where
       let held = k.holds refl in
       let told = ap (λ (w : World V T). w.told) it.world in
       rw it.call (
-          knows_behind r s t.world t.world_after (standing (Raising plan) t.call) (Creating plan) k refl Raise grew
-          (rw grew (is_early-push t.call.id t.world.history Raise k.entries refl))
-          k.plan
-          (λ raised. ap pending grew ∙ pending-push t.world.history e, λ open_now. refl)
-          (λ holding. record {
-            begun = held.begun;
-            owns = ap (λ (w : World V T). w.owner) it.world ∙ held.owns;
-            room = omega (arith, held.room);
-            ready = ap (is_ready t.call.id.node) grew ∙ (is_ready-push t.call.id.node t.world.history e ∙ held.ready);
-          })
-          (λ is. due_on t.world.history t.world_after.history plan (ap (value_at r.meanings s) grew ∙ value_of-other r.meanings.after s.base t.world.history e refl) (k.contents (rw told at is))))
+      knows_behind r s t.world t.world_after (standing (Raising plan) t.call) (Creating plan) k refl Raise grew
+      (rw grew (is_early-push t.call.id t.world.history Raise k.entries refl))
+      k.plan
+      (λ raised. ap pending grew ∙ pending-push t.world.history e, λ open_now. refl)
+      (λ holding. record {
+        begun = held.begun;
+        owns = ap (λ (w : World V T). w.owner) it.world ∙ held.owns;
+        room = omega (arith, held.room);
+        ready = ap (is_ready t.call.id.node) grew ∙ (is_ready-push t.call.id.node t.world.history e ∙ held.ready);
+      })
+      (λ is. due_on t.world.history t.world_after.history plan (ap (value_at r.meanings s) grew ∙ value_of-other r.meanings.after s.base t.world.history e refl) (k.contents (rw told at is))))
 
   -- a turn without an entry, and with a folder call
   done : (at next : At V T) (Makes : Contents → Contents → Type 0) (t : Turned V T) → Does t Makes [] next → Knows r s t.world (standing at t.call) → is_holding at ≡ true → IsEarly t.call.id t.world.history
@@ -80,8 +80,8 @@ module _ {V T M : Type 0} (r : Rules V T) (s : Store V M) where
   done at next Makes t it k holding early entries plan raised room initialising contents =
       let told = ap (λ (w : World V T). w.told) it.world in
       rw it.call (
-          knows_on r s t.world t.world_after (standing at t.call) next k holding (ap (λ (w : World V T). w.history) it.world) (ap (λ (w : World V T). w.owner) it.world) entries plan raised room initialising
-          (λ is. contents (rw told at is) (it.folder (rw told at is))))
+      knows_on r s t.world t.world_after (standing at t.call) next k holding (ap (λ (w : World V T). w.history) it.world) (ap (λ (w : World V T). w.owner) it.world) entries plan raised room initialising
+      (λ is. contents (rw told at is) (it.folder (rw told at is))))
 
   -- what was appended is to be synced, or there is more to append
   filled : (b : Bool) (at : At V T) (plan : Plan V T) (Makes : Contents → Contents → Type 0) (t : Turned V T) → (length plan.text.rest == 0) ≡ b → Does t Makes [] (if b then SyncingScratch plan else Appending plan)
@@ -127,17 +127,18 @@ module _ {V T M : Type 0} (r : Rules V T) (s : Store V M) where
       let held = k.holds refl in
       let asked = k.plan.asked in
       rw it.call (
-          knows_behind r s t.world t.world_after (standing (Renaming plan) t.call) (SyncingFolder (Changed (next_place t.world))) k refl plan.change grew
-          (changed t.call.id plan t.world.history t.world_after.history grew k.entries asked)
-          tt
-          (never,
-            λ open_now.
+      knows_behind r s t.world t.world_after (standing (Renaming plan) t.call) (SyncingFolder (Changed (next_place t.world))) k refl plan.change grew
+      (changed t.call.id plan t.world.history t.world_after.history grew k.entries asked)
+      tt (
+        never,
+        λ open_now.
             let own : pending t.world.history ≡ Some t.call.id = k.raised.0 refl in
-            absurd (let no : ◌≡◌ {A = Option CallId} None (Some t.call.id) = quiet_ended t.world.history t.world_after.history e grew (pending t.world.history) (λ call is. is) own (ap is_raise asked.is) (edit_ends t.call.id asked.edit plan.change asked.is) t.call.id open_now in cc))
-          (λ holding. record {
-            begun = held.begun;
-            owns = ap (λ (w : World V T). w.owner) it.world ∙ held.owns;
-            room = omega (arith, held.room);
-            ready = ap (is_ready t.call.id.node) grew ∙ (is_ready-push t.call.id.node t.world.history e ∙ (ap (λ mark. unwrap_or mark (is_ready t.call.id.node t.world.history)) (edit_marks_nothing asked.edit plan.change asked.is t.call.id.node) ∙ held.ready));
-          })
-          (λ is. tt))
+            absurd (let no : ◌≡◌ {A = Option CallId} None (Some t.call.id) = quiet_ended t.world.history t.world_after.history e grew (pending t.world.history) (λ call is. is) own (ap is_raise asked.is) (edit_ends t.call.id asked.edit plan.change asked.is) t.call.id open_now in cc),
+      )
+      (λ holding. record {
+        begun = held.begun;
+        owns = ap (λ (w : World V T). w.owner) it.world ∙ held.owns;
+        room = omega (arith, held.room);
+        ready = ap (is_ready t.call.id.node) grew ∙ (is_ready-push t.call.id.node t.world.history e ∙ (ap (λ mark. unwrap_or mark (is_ready t.call.id.node t.world.history)) (edit_marks_nothing asked.edit plan.change asked.is t.call.id.node) ∙ held.ready));
+      })
+      (λ is. tt))

@@ -1,3 +1,4 @@
 pub mod KeepingOn
 pub mod KeepingReads
 pub mod KeepingWrites
+pub mod KeepingLemmas
