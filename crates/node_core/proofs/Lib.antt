@@ -1,2 +1,7 @@
 pub mod BetweenLemmas
 pub mod SparingLemmas
+pub mod StepsLemmas
+pub mod KeepingOn
+pub mod KeepingReads
+pub mod KeepingWrites
+pub mod KeepingLemmas

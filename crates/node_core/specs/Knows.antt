@@ -53,8 +53,9 @@ module _ {V T M : Type 0} (r : Rules V T) (s : Store V M) where
   KnowsContents (SyncingFolder (Kept edit)) folder list = KeepsValue r.meanings.after s.handler (value_at r.meanings s list) edit
   KnowsContents other folder list = Unit {0}
 
-  -- a call that owns the lock, with the room that its step needs; its node is initialised, or is not
+  -- a call that owns the lock had a turn before, and has the room that its step needs; its node is initialised, or is not
   pub record Holds (w : World V T) (c : Call V T) : Type 0 where
+    pub begun : (entries : ℕ) × (c.since ≡ Some entries)
     pub owns : w.owner ≡ Some c.id
     pub room : c.room ≡ room_at c.at
     pub ready : is_ready c.id.node w.history ≡ not (is_initialising c.at)
