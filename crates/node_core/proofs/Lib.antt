@@ -1,6 +1,5 @@
 pub mod BetweenLemmas
 pub mod SparingLemmas
-pub mod StepsLemmas
 pub mod KeepingOn
 pub mod KeepingReads
 pub mod KeepingWrites

@@ -59,8 +59,6 @@ module _ {V T M : Type 0} (r : Rules V T) (s : Store V M) where
     pub owns : w.owner ≡ Some c.id
     pub room : c.room ≡ room_at c.at
     pub ready : is_ready c.id.node w.history ≡ not (is_initialising c.at)
-    -- its earliest turn is past
-    pub begun : (entries : ℕ) × (c.since ≡ Some entries)
 
   pub record Knows (w : World V T) (c : Call V T) : Type 0 where
     -- its earliest turn is past, or still to come
