@@ -1,2 +1,3 @@
 pub mod BetweenLemmas
 pub mod SparingLemmas
+pub mod StepsLemmas
