@@ -85,16 +85,17 @@ module _ {V T M : Type 0} (r : Rules V T) (s : Store V M) where
   nothing_known other folder list is = never (sym is)
 
   module _ (c : Call V T) (last now : World V T) (k : Knows r s last c) (b : Between c last now) (alive : has_died c.id.node c.since now.history ≡ false) where
-    -- what an owner has meanwhile
-    undisturbed_owner : (h : Holds r s last c) → (is_holding c.at ≡ true) → NoDeathOf c.id.node b.more × Undisturbed last now b.more
-    undisturbed_owner h is =
+    -- where the call owns the lock, its node did not die, and nothing of what it owns was disturbed
+    owner_kept : is_holding c.at ≡ true → NoDeathOf c.id.node b.more × Undisturbed last now b.more
+    owner_kept is =
+        let h = k.holds is in
         let began : h.begun.0 ≤ length last.history = rw h.begun.1 at k.began in
         (spared c last now b h.begun.0 h.begun.1 began alive, undisturbed c last now b h.begun.0 h.begun.1 began alive is)
 
     still_holds : is_holding c.at ≡ true → Holds r s now c
     still_holds is =
         let h = k.holds is in
-        let facts = undisturbed_owner h is in
+        let facts = owner_kept is in
         record {
           owns = facts.1.owner ∙ h.owns;
           room = h.room;
@@ -104,18 +105,18 @@ module _ {V T M : Type 0} (r : Rules V T) (s : Store V M) where
 
     still_raised : is_raised c.at ≡ true → pending now.history ≡ Some c.id
     still_raised is =
-        let holding = raised_holds c.at is in
-        let facts = undisturbed_owner (k.holds holding) holding in
+        let facts = owner_kept (raised_holds c.at is) in
         rw b.grew (pending_stays c.id last.history b.more facts.1.outer b.others facts.0 (k.raised.0 is))
 
-    still_known : (b : Bool) → is_holding c.at ≡ b → IsTrue now.told → KnowsContents r s c.at now.folder now.history
+    still_known : (holding : Bool) → is_holding c.at ≡ holding → IsTrue now.told → KnowsContents r s c.at now.folder now.history
     still_known false is told = nothing_known c.at now.folder now.history is
     still_known true is told =
-        let facts = undisturbed_owner (k.holds is) is in
+        let facts = owner_kept is in
         let told_then : IsTrue last.told = rw b.told at told in
         let same : value_at r.meanings s now.history ≡ value_at r.meanings s last.history = rw b.grew (value r.meanings.after s.base last.history b.more facts.1.outer) in
         same_contents last.folder now.folder last.history now.history (facts.1.scratch told_then) same c.at (k.contents told_then)
 
+    -- a call whose node did not die still knows what it knew
     pub between_keeps_knowledge : Knows r s now c
     between_keeps_knowledge =
         record {

@@ -1,6 +1,7 @@
 pub mod BetweenLemmas
-pub mod SparingLemmas
+pub mod KeepingLemmas
 pub mod KeepingOn
 pub mod KeepingReads
 pub mod KeepingWrites
-pub mod KeepingLemmas
+pub mod SparingLemmas
+pub mod StepsLemmas

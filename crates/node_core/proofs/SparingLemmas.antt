@@ -254,14 +254,15 @@ module _ {V T M : Type 0} (r : Rules V T) (s : Store V M) where
         let waiting : Turn r s t Blocked = rw waits at it in
         spares_all other t apart (turn_waits r s t waiting).4
 
-    -- a turn of another client leaves the call what it knows
-    pub turn_spares : Knows r s t.world t.call → Knows r s t.world other → Between other t.world t.world_after
-    turn_spares knows knows_other = by_other (is_holding other.at) refl
-      where
-        by_own : (b : Bool) → is_holding t.call.at ≡ b → t.world.owner ≡ Some other.id → Between other t.world t.world_after
-        by_own true holds owns = absurd (unlike other t apart (let same : Some other.id ≡ Some t.call.id = sym owns ∙ (knows.holds holds).owns in cc))
-        by_own false free owns = spares_owner (is_gone t.call.at) (has_died_by (begin t)) (dies_now (begin t)) refl refl refl free owns
+  -- a turn leaves a call of another client what it knows
+  pub turn_spares : (t : Turned V T) (gave : Gave) → Turn r s t gave → Knows r s t.world t.call → (other : Call V T) → (other.id.client.0 == t.call.id.client.0) ≡ false → Knows r s t.world other
+      → Between other t.world t.world_after
+  turn_spares t gave it knows other apart knows_other = by_other (is_holding other.at) refl
+    where
+      by_own : (b : Bool) → is_holding t.call.at ≡ b → t.world.owner ≡ Some other.id → Between other t.world t.world_after
+      by_own true holds owns = absurd (unlike other t apart (let same : Some other.id ≡ Some t.call.id = sym owns ∙ (knows.holds holds).owns in cc))
+      by_own false free owns = spares_owner t gave it other apart (is_gone t.call.at) (has_died_by (begin t)) (dies_now (begin t)) refl refl refl free owns
 
-        by_other : (b : Bool) → is_holding other.at ≡ b → Between other t.world t.world_after
-        by_other false free = spares_free other (begin t) apart (turn_own t gave it) free
-        by_other true holds = by_own (is_holding t.call.at) refl (knows_other.holds holds).owns
+      by_other : (b : Bool) → is_holding other.at ≡ b → Between other t.world t.world_after
+      by_other false free = spares_free other (begin t) apart (turn_own t gave it) free
+      by_other true holds = by_own (is_holding t.call.at) refl (knows_other.holds holds).owns

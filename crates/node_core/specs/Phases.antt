@@ -17,6 +17,11 @@ module _ {V T : Type 0} where
   is_initialising (Finishing edit) = true
   is_initialising other = false
 
+  -- its next turn tells that its node is initialised
+  abbrev pub is_finishing : At V T → Bool
+  is_finishing (Finishing edit) = true
+  is_finishing other = false
+
   -- its Raise is open
   abbrev pub is_raised : At V T → Bool
   is_raised at = is_writing (step_at true at)
