@@ -1,7 +1,11 @@
 pub mod BetweenLemmas
+pub mod EarlyLemmas
+pub mod EquippedLemmas
 pub mod KeepingLemmas
 pub mod KeepingOn
 pub mod KeepingReads
 pub mod KeepingWrites
+pub mod RenameLemmas
+pub mod RowLemmas
 pub mod SparingLemmas
 pub mod StepsLemmas

@@ -31,7 +31,7 @@ module _ (V T : Type 0) (limit : ℕ) where
   locked false false edit known = omega arith
 
   -- once the scratch file is there, or has a piece more
-  fills : (initialised : Bool) (t : Turned V T) (plan : Plan V T) (left : ℕ) → length plan.text.rest + 3 < left → Fewer left initialised (filling t plan)
+  fills : (initialised : Bool) (t : Turned V T) (plan : Plan V T) (left : ℕ) → length plan.text.rest + 3 < left → Fewer left initialised (filling plan)
   fills initialised t plan left more = by_rest (length plan.text.rest == 0)
     where
       by_rest : (b : Bool) → Fewer left initialised (if b then SyncingScratch plan else Appending plan)
@@ -61,7 +61,7 @@ module _ {V T M : Type 0} (r : Rules V T) (s : Store V M) (initialised : Bool) w
   row_steps (Creating plan) t it written known = rw it.call (fills V T s.limits.file (initialised || false) t plan (length plan.text.rest + 4) (omega arith))
   row_steps (Appending plan) t it written known =
       let shorter : length (drop 4096 plan.text.rest) + 3 < length plan.text.rest + 3 = omega (arith, length-drop 4096 plan.text.rest, written.left) in
-      rw it.call (fills V T s.limits.file (initialised || false) t (piece_written t plan) (length plan.text.rest + 3) shorter)
+      rw it.call (fills V T s.limits.file (initialised || false) t (piece_written plan) (length plan.text.rest + 3) shorter)
   row_steps (SyncingScratch plan) t it written known = rw it.call omega arith
   row_steps (Renaming plan) t it written known = rw it.call omega arith
   row_steps (SyncingFolder ending) t it plan known = absurd it

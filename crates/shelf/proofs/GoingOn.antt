@@ -91,7 +91,7 @@ module _ {V T : Type 0} (call : CallId) where
       by_head true behind updates ended none rest = absurd cc
       by_head false behind updates ended none rest = rest none
 
-  none_ended-push : (list : List (EntrySeen V T)) (last : EntrySeen V T) → list_any (is_own is_update call) list ≡ false → some_entry (is_ended_update call) (list ++ last ∷ []) ≡ false
+  pub none_ended-push : (list : List (EntrySeen V T)) (last : EntrySeen V T) → list_any (is_own is_update call) list ≡ false → some_entry (is_ended_update call) (list ++ last ∷ []) ≡ false
   none_ended-push [] last none = by_last (is_own is_update call last)
     where
       by_last : (update : Bool) → ((update && false) || false) ≡ false

@@ -131,7 +131,7 @@ fn rename<P: Parts>(
     ensures raises { raises_of (shelf_seen shelf.new).list ≡ raises_of (shelf_seen shelf.old).list }
 {
     match shelf.rename(origin.call, plan, change) {
-        Ok(_) => Written::Changed {
+        Ok(_renamed) => Written::Changed {
             at: shelf.journal().len(),
         },
         Err(at) => Written::Faulted { at },
