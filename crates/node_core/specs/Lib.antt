@@ -3,6 +3,7 @@ pub mod Knows
 pub mod Own
 pub mod Phases
 pub mod Plans
+pub mod ReadHeld
 pub mod Reading
 pub mod Ready
 pub mod Steps

@@ -2,6 +2,8 @@ use shelf::{Parts, ValueOf};
 use std::sync::Arc;
 use store_traits::ReadError;
 
+mod stepping;
+
 /// What a call that owns the lock has to do so that its node is initialised.
 #[derive(Drop)]
 pub enum InitCall<P: Parts> {

@@ -6,6 +6,7 @@
 mod ending;
 mod init_call;
 mod origin;
+mod read_held;
 mod update_call;
 mod write_call;
 
