@@ -2,3 +2,4 @@ pub mod KeepingOn
 pub mod KeepingReads
 pub mod KeepingWrites
 pub mod KeepingLemmas
+pub mod ForLemmas
