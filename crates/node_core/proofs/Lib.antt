@@ -3,3 +3,5 @@ pub mod KeepingReads
 pub mod KeepingWrites
 pub mod KeepingLemmas
 pub mod ForLemmas
+pub mod UnreadableBase
+pub mod DeathCause
