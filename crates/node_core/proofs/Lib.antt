@@ -5,3 +5,5 @@ pub mod KeepingLemmas
 pub mod ForLemmas
 pub mod UnreadableBase
 pub mod DeathCause
+pub mod FailedCalls
+pub mod CauseOfAnswers
