@@ -1,18 +1,15 @@
 -- An error has its cause in the history.
-use Rattle.std.proofs.Common.{◌≡◌, ◌∙◌, ◌+◌, inl, inr, ℕ, Bool, true, false, IsTrue, List, [], ◌∷◌, ◌++◌, Option, Some, length, append-nil, refl, sym, ap, arith, Result, Ok, Err}
-use Rattle.store_traits.specs.declared.ids.CallId.{CallId}
+use Rattle.std.proofs.Common.{◌≡◌, ◌∙◌, inl, inr, ℕ, Bool, true, false, IsTrue, List, [], append-nil, refl, sym, ap, arith, Result, Err}
 use Rattle.store_traits.specs.declared.update_error.UpdateError.{UpdateError}
 use Rattle.store_traits.specs.declared.update_error.UpdateError.TheVariants as error
 use Rattle.folder_disk.specs.Contents.{Contents}
-use Rattle.hist_journal.specs.declared.device.Device.TheVariants.{Folder}
 use Rattle.hist_journal.specs.declared.seen.BaseSeen.TheVariants.{Held, Corrupt, TooLong}
 use Rattle.hist_journal.specs.declared.seen.EntrySeen.{EntrySeen}
-use Rattle.hist_journal.specs.declared.seen.KindSeen.TheVariants.{Fault}
 use Rattle.hist_journal.specs.Folds.{edition_of}
 use Rattle.shelf.specs.declared.store.Store.{Store}
 use Rattle.shelf.specs.ApplyRow.{Applies}
 use Rattle.shelf.specs.Base.{ReadsAs}
-use Rattle.shelf.specs.Calls.{At, Call, First, ReadingFirst, Migrating, Finishing, Reading, Raising, Creating, Appending, SyncingScratch, Renaming, SyncingFolder, Gone, Changed, Kept, is_gone}
+use Rattle.shelf.specs.Calls.{At, First, ReadingFirst, Migrating, Reading, Creating, Appending, SyncingScratch, Renaming, SyncingFolder, Changed, Kept, is_gone}
 use Rattle.shelf.specs.Causes.{HasCause, IsFaulted, IsRefused, IsFull, IsSince, IsTooLong}
 use Rattle.shelf.specs.Effects.{Fails, next_place}
 use Rattle.shelf.specs.Legal.{value_at}
@@ -23,7 +20,6 @@ use Rattle.shelf.specs.declared.progress.Progress.TheVariants.{Ended}
 use Rattle.shelf.specs.ReadRows.{ReadRow, ToMigrations}
 use Rattle.shelf.specs.Turn.{EndsDead, EndsDying, Row, Turn, TurnBy, begin, has_died_by, dies_now}
 use Rattle.shelf.specs.World.{Rules, World, Turned}
-use Rattle.shelf.proofs.Bools.{never}
 use Rattle.node_core.specs.Knows.{Knows}
 use Rattle.node_core.specs.Own.{IsEarly, IsFor}
 use Rattle.node_core.specs.Reading.{ReadsTruly}

@@ -1,5 +1,5 @@
 -- A call that a Death ended: what the history shows of it.
-use Rattle.std.proofs.Common.{◌≡◌, ◌∙◌, ◌+◌, ℕ, Bool, true, false, List, [], ◌∷◌, ◌++◌, Option, Some, None, length, refl, sym, ap, arith, if◌then◌else◌}
+use Rattle.std.proofs.Common.{◌≡◌, ◌+◌, ℕ, Bool, true, false, List, [], ◌∷◌, ◌++◌, Option, Some, None, length, refl, ap, arith, if◌then◌else◌}
 use Rattle.std.specs.List.{list_any}
 use Rattle.std.specs.Option.{option_map, option_or}
 use Rattle.std.proofs.lemmas.Bool.{eq-eqb}
@@ -12,7 +12,6 @@ use Rattle.shelf.specs.Causes.{IsDead}
 use Rattle.shelf.specs.Deaths.{last_death}
 use Rattle.shelf.specs.Meanwhile.{NoDeathOf}
 use Rattle.shelf.specs.Places.{StandsAt, is_up_to}
-use Rattle.shelf.proofs.Bools.{never}
 
 module _ {V T : Type 0} where
   -- a Death of this node

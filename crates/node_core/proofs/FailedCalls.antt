@@ -1,5 +1,5 @@
 -- What the history shows of a call that a Fault ended.
-use Rattle.std.proofs.Common.{◌≡◌, ◌∙◌, ◌+◌, ◌||◌, ◌&&◌, not, inr, ℕ, Bool, true, false, List, [], ◌∷◌, ◌++◌, length, append_assoc, refl, sym, ap}
+use Rattle.std.proofs.Common.{◌≡◌, ◌∙◌, ◌+◌, ◌&&◌, ℕ, Bool, true, false, List, [], ◌∷◌, ◌++◌, length, append_assoc, refl, sym, ap}
 use Rattle.std.specs.List.{list_any}
 use Rattle.std.proofs.lemmas.Bool.{or_parts}
 use Rattle.store_traits.specs.declared.ids.CallId.{CallId}
@@ -10,7 +10,6 @@ use Rattle.hist_journal.specs.declared.seen.KindSeen.TheVariants.{Raise, Inited,
 use Rattle.hist_journal.specs.Kinds.{is_call, is_change}
 use Rattle.shelf.specs.Causes.{IsFaulted, IsUncertain, is_unsynced}
 use Rattle.shelf.specs.Entries.{is_own, is_update, some_entry}
-use Rattle.shelf.specs.Images.{is_synced}
 use Rattle.shelf.specs.Places.{StandsAt, is_fault_of}
 use Rattle.shelf.proofs.Bools.{never}
 use Rattle.shelf.proofs.RaiseLemmas.{none_of_fewer}
@@ -55,6 +54,7 @@ module _ {V T : Type 0} where
       abbrev fault_entry : EntrySeen V T
       fault_entry = record { who = call; kind = Fault Folder count }
 
+      -- it is a Fault of the call
       pub fault_is_own : is_own (is_fault_of {V = V} {T = T} Folder) call fault_entry ≡ true
       fault_is_own = rw (itself call) refl
 

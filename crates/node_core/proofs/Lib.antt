@@ -7,3 +7,4 @@ pub mod UnreadableBase
 pub mod DeathCause
 pub mod FailedCalls
 pub mod CauseOfAnswers
+pub mod Acknowledging
