@@ -8,3 +8,5 @@ pub mod DeathCause
 pub mod FailedCalls
 pub mod CauseOfAnswers
 pub mod Acknowledging
+pub mod SilenceLemmas
+pub mod LivingTurns
