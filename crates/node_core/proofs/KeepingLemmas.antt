@@ -47,7 +47,7 @@ module _ {V T M : Type 0} (r : Rules V T) (s : Store V M) where
   row_waits (Reading edit) t it = absurd it.then
   row_waits other t it = absurd it
 
-  waits_by : (gone died dies : Bool) (t : Turned V T) → TurnBy r s gone died dies t Blocked → Waits r s t
+  pub waits_by : (gone died dies : Bool) (t : Turned V T) → TurnBy r s gone died dies t Blocked → Waits r s t
   waits_by true died dies t it = absurd it
   waits_by false true dies t it = absurd it
   waits_by false false true t it = absurd it

@@ -35,7 +35,7 @@ not_later : (same : Bool) (number : ℕ) → (same && nat_lt number number) ≡ 
 not_later same number = grind (arith, nat_tests)
 
 -- nor is it of a kind that its entry is not of
-own_none : (own kind : Bool) → kind ≡ false → (own && kind) ≡ false
+pub own_none : (own kind : Bool) → kind ≡ false → (own && kind) ≡ false
 own_none true kind none = none
 own_none false kind none = refl
 

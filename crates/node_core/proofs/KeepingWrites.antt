@@ -39,6 +39,19 @@ module _ {V T : Type 0} where
   edit_ends : (call : CallId) (edit : T) (kind : KindSeen V T) → kind ≡ Edit edit → ends call (record { who = call; kind = kind }) ≡ true
   edit_ends call edit kind is = rw (is, itself call) refl
 
+  -- the value change of the plan stands, and is the last entry
+  abbrev pub has_changed : (call : CallId) (plan : Plan V T) (old now : List (EntrySeen V T)) → now ≡ old ++ record { who = call; kind = plan.change } ∷ [] → IsEarly call old → (asked : HasEdit plan) → HasChanged call (length old + 1) now
+  has_changed call plan old now grew early asked =
+      record {
+        before = old;
+        edit = asked.edit;
+        behind = [];
+        is = grew ∙ ap (λ kind. old ++ record { who = call; kind = kind } ∷ []) asked.is;
+        early = early;
+        last = refl;
+        counted = refl;
+      }
+
 module _ {V T M : Type 0} (r : Rules V T) (s : Store V M) where
   -- a plan is due as long as the value stays
   due_on : (old now : List (EntrySeen V T)) (plan : Plan V T) → value_at r.meanings s now ≡ value_at r.meanings s old → IsDue r s old plan → IsDue r s now plan
@@ -107,19 +120,6 @@ module _ {V T M : Type 0} (r : Rules V T) (s : Store V M) where
       done (SyncingScratch plan) (Renaming plan) SyncsScratch t it k refl k.entries k.entries k.plan refl refl refl
       (λ is made. let known = k.contents is in record { due = known.due; scratch = made.scratch ∙ ap (λ old. Synced (scratch_bytes old)) known.scratch })
 
-  -- the value change stands
-  changed : (call : CallId) (plan : Plan V T) (old now : List (EntrySeen V T)) → now ≡ old ++ record { who = call; kind = plan.change } ∷ [] → IsEarly call old → (asked : HasEdit plan) → HasChanged call (length old + 1) now
-  changed call plan old now grew early asked =
-      record {
-        before = old;
-        edit = asked.edit;
-        behind = [];
-        is = grew ∙ ap (λ kind. old ++ record { who = call; kind = kind } ∷ []) asked.is;
-        early = early;
-        last = refl;
-        counted = refl;
-      }
-
   pub renaming_keeps : (plan : Plan V T) (t : Turned V T) → Does t Renames (plan.change ∷ []) (SyncingFolder (Changed (next_place t.world))) → Knows r s t.world (standing (Renaming plan) t.call) → Knows r s t.world_after t.call_after
   renaming_keeps plan t it k =
       let e : EntrySeen V T = record { who = t.call.id; kind = plan.change } in
@@ -128,7 +128,7 @@ module _ {V T M : Type 0} (r : Rules V T) (s : Store V M) where
       let asked = k.plan.asked in
       rw it.call (
       knows_behind r s t.world t.world_after (standing (Renaming plan) t.call) (SyncingFolder (Changed (next_place t.world))) k refl plan.change grew
-      (changed t.call.id plan t.world.history t.world_after.history grew k.entries asked)
+      (has_changed t.call.id plan t.world.history t.world_after.history grew k.entries asked)
       tt (
         never,
         λ open_now.

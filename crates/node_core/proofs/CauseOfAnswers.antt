@@ -1,0 +1,106 @@
+-- An error has its cause in the history.
+use Rattle.std.proofs.Common.{◌≡◌, ◌∙◌, inl, inr, ℕ, Bool, true, false, IsTrue, List, [], append-nil, refl, sym, ap, arith, Result, Err}
+use Rattle.store_traits.specs.declared.update_error.UpdateError.{UpdateError}
+use Rattle.store_traits.specs.declared.update_error.UpdateError.TheVariants as error
+use Rattle.folder_disk.specs.Contents.{Contents}
+use Rattle.hist_journal.specs.declared.seen.BaseSeen.TheVariants.{Held, Corrupt, TooLong}
+use Rattle.hist_journal.specs.declared.seen.EntrySeen.{EntrySeen}
+use Rattle.hist_journal.specs.Folds.{edition_of}
+use Rattle.shelf.specs.declared.store.Store.{Store}
+use Rattle.shelf.specs.ApplyRow.{Applies}
+use Rattle.shelf.specs.Base.{ReadsAs}
+use Rattle.shelf.specs.Calls.{At, First, ReadingFirst, Migrating, Reading, Creating, Appending, SyncingScratch, Renaming, SyncingFolder, Changed, Kept, is_gone}
+use Rattle.shelf.specs.Causes.{HasCause, IsFaulted, IsRefused, IsFull, IsSince, IsTooLong}
+use Rattle.shelf.specs.Effects.{Fails, next_place}
+use Rattle.shelf.specs.Legal.{value_at}
+use Rattle.shelf.specs.LockRow.{LockRow}
+use Rattle.shelf.specs.Places.{HasFront}
+use Rattle.shelf.specs.declared.progress.Progress.{Progress}
+use Rattle.shelf.specs.declared.progress.Progress.TheVariants.{Ended}
+use Rattle.shelf.specs.ReadRows.{ReadRow, ToMigrations}
+use Rattle.shelf.specs.Turn.{EndsDead, EndsDying, Row, Turn, TurnBy, begin, has_died_by, dies_now}
+use Rattle.shelf.specs.World.{Rules, World, Turned}
+use Rattle.node_core.specs.Knows.{Knows}
+use Rattle.node_core.specs.Own.{IsEarly, IsFor}
+use Rattle.node_core.specs.Reading.{ReadsTruly}
+use Rattle.node_core.proofs.DeathCause.{IsSilent, dead_before, dead_now}
+use Rattle.node_core.proofs.FailedCalls.{fault_stands, faulted, uncertain}
+use Rattle.node_core.proofs.KeepingOn.{knows_begun, standing}
+use Rattle.node_core.proofs.UnreadableBase.{corrupt_from_start, too_long_from_start}
+
+module _ {V T M : Type 0} (r : Rules V T) (s : Store V M) (edit : T) where
+  -- the error has its cause once the turn is done
+  abbrev Caused : Turned V T → UpdateError → Type 0
+  Caused t e = HasCause r s (edition_of t.world.history) t.call.id edit e t.world_after.history
+
+  -- the history is as it was, or longer
+  abbrev front_now : (Holds : List (EntrySeen V T) → Type 0) (t : Turned V T) → t.world_after.history ≡ t.world.history → Holds t.world.history → HasFront Holds t.world_after.history
+  front_now Holds t same holds = record { front = t.world.history; back = []; is = same ∙ sym (append-nil t.world.history); holds = holds }
+
+  folder_failed : {Part : Contents → Contents → Type 0} (t : Turned V T) (place : ℕ) → place ≡ next_place t.world → Fails t Part → IsEarly t.call.id t.world.history → IsFaulted t.call.id place t.world_after.history
+  folder_failed t place is it early = rw is (faulted t.call.id t.world.history t.world_after.history t.world_after.faults (ap (λ (w : World V T). w.history) it.world) early)
+
+  -- the value that was read is that of the history
+  abbrev Reads : Turned V T → Type 0
+  Reads t = (value : V) → (IsTrue t.world.told → ReadsAs r.reads r.absent s.limits.file t.world.folder.main (Held value)) → value_at r.meanings s t.world.history ≡ Held value
+
+  read_cause : (Then : V → Progress (Result ℕ UpdateError) → Type 0) (t : Turned V T) (e : UpdateError) → ReadRow r s t Then (Ended (Err e)) → IsTrue t.world.told → ReadsTruly r s t.world → IsEarly t.call.id t.world.history
+      → ((value : V) (e : UpdateError) → value_at r.meanings s t.world.history ≡ Held value → Then value (Ended (Err e)) → Caused t e) → Caused t e
+  read_cause Then t (error.StorageFault place) it told reads early rest = folder_failed t place it.0 it.1 early
+  read_cause Then t (error.FileTooLong len) it told reads early rest = too_long_from_start r.meanings.after s.base t.world.history len (reads told (TooLong len) (it.0 told))
+  read_cause Then t error.Corrupt it told reads early rest = record { unreadable = corrupt_from_start r.meanings.after s.base t.world.history (reads told Corrupt (it.0 told)); alone = it.1 }
+  read_cause Then t error.NoMemory it told reads early rest = tt
+  read_cause Then t other it told reads early rest = rest it.value other (reads told (Held it.value) (it.read told)) it.then
+
+  applies_cause : (asked : T) (t : Turned V T) (value : V) (e : UpdateError) → asked ≡ edit → value_at r.meanings s t.world.history ≡ Held value → Applies r s t asked value (Ended (Err e)) → Caused t e
+  applies_cause asked t value (error.Refused code edition) so held it =
+      front_now (IsRefused r s edit code edition) t (ap (λ (w : World V T). w.history) it.2.world) (record { old = value; held = held; refused = ap (λ t. r.meanings.after t value) (sym so) ∙ it.0; reached = it.1 })
+  applies_cause asked t value (error.ValueTooLong len) so held it =
+      let change = it.0.change in
+      front_now (IsSince r s (edition_of t.world.history) (IsTooLong r s edit len)) t (ap (λ (w : World V T). w.history) it.1.world)
+      (record {
+        fresh = omega arith;
+        holds = inl (record { old = change.old; new = change.new; held = held ∙ change.held; makes = ap (λ t. r.meanings.after t change.old) (sym so) ∙ change.makes; long = record { is = it.0.is; past = it.0.past } });
+      })
+  applies_cause asked t value other so held it = absurd it
+
+  lock_cause : (asked : T) (t : Turned V T) (e : UpdateError) → LockRow r s t asked (Ended (Err e)) → Caused t e
+  lock_cause asked t (error.HistoryFull entries weight) it =
+      front_now (IsFull r s entries weight) t (ap (λ (w : World V T). w.history) it.2.world) (record { entries_then = it.1.entries_now; weight_then = it.1.weight_now; bound = it.1.bound })
+  lock_cause asked t error.NoMemory it = tt
+  lock_cause asked t other it = absurd it
+
+  row_cause : (at : At V T) (t : Turned V T) (e : UpdateError) → Row r s at t (Ended (Err e)) → IsTrue t.world.told → Knows r s t.world (standing at t.call) → ReadsTruly r s t.world → IsFor t.call.id edit at t.world.history → Caused t e
+  row_cause (First asked) t e it told k reads so = lock_cause asked t e it
+  row_cause (ReadingFirst asked) t e it told k reads so = read_cause (ToMigrations r s t asked) t e it told reads k.entries (λ value e held no. absurd no)
+  row_cause (Migrating asked value) t error.NoMemory it told k reads so = tt
+  row_cause (Reading asked) t e it told k reads so = read_cause (Applies r s t asked) t e it told reads k.entries (λ value e held then. applies_cause asked t value e so held then)
+  row_cause (Creating plan) t (error.StorageFault place) it told k reads so = folder_failed t place it.0 it.1 k.entries
+  row_cause (Appending plan) t (error.StorageFault place) it told k reads so = folder_failed t place it.0 it.1 k.entries
+  row_cause (SyncingScratch plan) t (error.StorageFault place) it told k reads so = folder_failed t place it.0 it.1 k.entries
+  row_cause (Renaming plan) t (error.StorageFault place) it told k reads so = folder_failed t place it.0 it.1 k.entries
+  row_cause (SyncingFolder (Changed at)) t (error.NotDurable place) it told k reads so =
+      inl (rw it.0 (uncertain t.call.id t.world.history t.world_after.history t.world_after.faults (ap (λ (w : World V T). w.history) it.1.world) at k.entries))
+  row_cause (SyncingFolder (Kept asked)) t (error.NotDurable place) it told k reads so =
+      inr (rw (it.0, ← so) (record { fault = fault_stands t.call.id t.world.history t.world_after.history t.world_after.faults (ap (λ (w : World V T). w.history) it.1.world); same = k.contents told }))
+  row_cause at t other it told k reads so = absurd it
+
+  dead_cause : (t : Turned V T) (e : UpdateError) → EndsDead t (Ended (Err e)) → IsSilent t.call.id t.world.history → Caused t e
+  dead_cause t (error.Died place) it silent = rw (ap (λ (w : World V T). w.history) it.1) (dead_before t.call.id t.world.history place silent it.0)
+  dead_cause t other it silent = absurd it
+
+  dying_cause : (t : Turned V T) (e : UpdateError) → EndsDying t (Ended (Err e)) → Caused t e
+  dying_cause t (error.Died place) it = rw it.0 (dead_now t.call.id t.world.history t.world_after.history (ap (λ (w : World V T). w.history) it.1.world))
+  dying_cause t other it = absurd it
+
+  cause_by : (gone died dies : Bool) (t : Turned V T) (e : UpdateError) → TurnBy r s gone died dies t (Ended (Err e)) → IsTrue t.world.told → Knows r s t.world t.call → ReadsTruly r s t.world → IsFor t.call.id edit t.call.at t.world.history
+      → (died ≡ true → IsSilent t.call.id t.world.history) → Caused t e
+  cause_by true died dies t e it told k reads so silent = absurd it
+  cause_by false true dies t e it told k reads so silent = dead_cause t e it (silent refl)
+  cause_by false false true t e it told k reads so silent = dying_cause t e it
+  cause_by false false false t e it told k reads so silent = row_cause t.call.at t e it told k reads so
+
+  -- an error has its cause in the history; where the node of the call has died, no entry of its client up to this call may stand behind that
+  pub error_has_cause : (t : Turned V T) (e : UpdateError) → Turn r s t (Ended (Err e)) → IsTrue t.world.told → Knows r s t.world t.call → ReadsTruly r s t.world → IsFor t.call.id edit t.call.at t.world.history
+      → (has_died_by (begin t) ≡ true → IsSilent t.call.id t.world.history) → HasCause r s (edition_of t.world.history) t.call.id edit e t.world_after.history
+  error_has_cause t e it told k reads so silent = cause_by (is_gone t.call.at) (has_died_by (begin t)) (dies_now (begin t)) (begin t) e it told (knows_begun r s t k) reads so silent
