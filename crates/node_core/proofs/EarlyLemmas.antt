@@ -57,7 +57,7 @@ module _ {V T : Type 0} where
         unended =
             ap (list_any (is_own is_fault_or_death call)) is
             ∙ (meanwhile.own is_fault_or_death call (changed.before ++ e ∷ []) changed.behind changed.last
-              ∙ one_more (is_own is_fault_or_death call) changed.before e (none_late call changed.before is_fault_or_death ends_late changed.early) (no_kind (is_call call call)));
+            ∙ one_more (is_own is_fault_or_death call) changed.before e (none_late call changed.before is_fault_or_death ends_late changed.early) (no_kind (is_call call call)));
         first =
             ap (some_entry (is_ended_update call)) is
             ∙ (meanwhile.ended_update call (changed.before ++ e ∷ []) changed.behind changed.last ∙ none_ended-push call changed.before e (none_late call changed.before is_update updates_late changed.early));

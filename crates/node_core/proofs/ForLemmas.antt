@@ -45,7 +45,7 @@ module _ {V T M : Type 0} (r : Rules V T) (s : Store V M) (edit : T) where
   row_is_for (Reading asked) t it k so = elim it.then [ inl writes ↦ rw writes.goes_on.call (ap Edit so) | inr keeps ↦ rw keeps.goes_on.call so ]
   row_is_for (Raising plan) t it k so = rw it.call so
   row_is_for (Creating plan) t it k so = rw it.call (filling_is_for t.call.id edit (length plan.text.rest == 0) plan t.world_after.history so)
-  row_is_for (Appending plan) t it k so = rw it.call (filling_is_for t.call.id edit (length (drop 4096 plan.text.rest) == 0) (piece_written t plan) t.world_after.history so)
+  row_is_for (Appending plan) t it k so = rw it.call (filling_is_for t.call.id edit (length (drop 4096 plan.text.rest) == 0) (piece_written plan) t.world_after.history so)
   row_is_for (SyncingScratch plan) t it k so = rw it.call so
   row_is_for (Renaming plan) t it k so =
       rw it.call (has_changed t.call.id plan t.world.history t.world_after.history (ap (λ (w : World V T). w.history) it.world) k.entries (record { edit = edit; is = so }), refl)

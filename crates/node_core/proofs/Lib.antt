@@ -1,8 +1,10 @@
 pub mod Acknowledging
+pub mod ApplyLemmas
 pub mod BetweenLemmas
 pub mod CauseOfAnswers
 pub mod DeathCause
 pub mod EarlyLemmas
+pub mod EndLemmas
 pub mod EquippedLemmas
 pub mod FailedCalls
 pub mod ForLemmas
@@ -11,9 +13,11 @@ pub mod KeepingOn
 pub mod KeepingReads
 pub mod KeepingWrites
 pub mod LivingTurns
+pub mod ReadLemmas
 pub mod RenameLemmas
 pub mod RowLemmas
 pub mod SilenceLemmas
 pub mod SparingLemmas
 pub mod StepsLemmas
+pub mod TakeLemmas
 pub mod UnreadableBase

@@ -8,13 +8,13 @@ use Rattle.folder_disk.specs.Contents.{Contents}
 use Rattle.hist_journal.specs.declared.device.Device.TheVariants.{Folder}
 use Rattle.hist_journal.specs.declared.seen.EntrySeen.{EntrySeen}
 use Rattle.hist_journal.specs.declared.seen.KindSeen.{KindSeen}
-use Rattle.hist_journal.specs.declared.seen.KindSeen.TheVariants.{Raise, Fault}
+use Rattle.hist_journal.specs.declared.seen.KindSeen.TheVariants.{Raise, Inited, Fault}
 use Rattle.hist_journal.specs.Folds.{raises_of}
 use Rattle.hist_journal.specs.Kinds.{is_call, is_raise}
 use Rattle.hist_journal.proofs.FoldLemmas.{raises_of-other, raises_of-raise}
-use Rattle.shelf.specs.Calls.{At, Gone, Plan, Raising, Creating}
+use Rattle.shelf.specs.Calls.{At, First, Gone, Plan, Creating}
 use Rattle.shelf.specs.Effects.{Does, DoesLast, Fails, Stops, freed, with_entries}
-use Rattle.shelf.specs.Ledger.{freed_room}
+use Rattle.shelf.specs.LastRows.{Finishes}
 use Rattle.shelf.specs.ShelfSeen.{ShelfSeen}
 use Rattle.shelf.specs.ShelfTurns.{Adds, Faults, Frees}
 use Rattle.shelf.specs.WriteRows.{Raises}
@@ -78,8 +78,7 @@ module _ {C F V T : Type 0} (f : folder_trait.Ghosts F) (origin : Origin) (at : 
       → (IsTrue f.told → Leaves (f.contents old.folder) (f.contents new.folder)) → Rose (f.tally old.folder).count (f.tally new.folder).count → (place ≡ length old.list + 1) × Fails (turned f origin at old origin Gone new) Leaves
   fails_row Leaves place faults leaves rose =
       let frees = faults.leaves in
-      let same : raises_of new.list ≡ raises_of old.list = ap raises_of frees.list ∙ same_raises origin.call (Fault Folder (f.tally new.folder).count ∷ []) old.list refl in
-      (
+      let same : raises_of new.list ≡ raises_of old.list = ap raises_of frees.list ∙ same_raises origin.call (Fault Folder (f.tally new.folder).count ∷ []) old.list refl in (
         faults.place,
         record {
           folder = leaves;
@@ -92,6 +91,15 @@ module _ {C F V T : Type 0} (f : folder_trait.Ghosts F) (origin : Origin) (at : 
   -- nothing but the lock changed, and the call ends
   pub stops_row : Frees origin.call [] old new → new.folder ≡ old.folder → Stops (turned f origin at old origin Gone new)
   stops_row frees same = record { world = rw (same, frees.owner, frees.list) refl; call = rw (frees.owner, room_freed origin.call old.owner new.room) refl }
+
+  -- the node is initialised, and the holding had room for that alone
+  pub finish_row : (edit : T) → old.owner ≡ Some origin.call → old.room ≡ 1 → Frees origin.call (Inited origin.call.node ∷ []) old new → new.folder ≡ old.folder → Finishes (turned f origin at old origin (First edit) new) edit
+  finish_row edit owns room frees same =
+      let raises : raises_of new.list ≡ raises_of old.list = ap raises_of frees.list ∙ same_raises origin.call (Inited origin.call.node ∷ []) old.list refl in
+      record {
+        world = rw (same, raises, frees.owner, frees.list) refl;
+        call = rw (frees.owner, room_freed origin.call old.owner new.room, owned_room origin.call old.owner old.room owns, room) refl;
+      }
 
   -- the version was raised
   pub raise_row : (plan : Plan V T) → old.owner ≡ Some origin.call → Adds origin.call (Raise ∷ []) old new → new.folder ≡ old.folder → Raises (turned f origin at old origin (Creating plan) new) plan
@@ -117,6 +125,9 @@ module _ {C F V T : Type 0} (call : CallId) (old new : ShelfSeen C F V T) where
   -- what is added without a Raise leaves the version, and so does a Fault
   pub added_raises : (kinds : List (KindSeen V T)) → list_any is_raise kinds ≡ false → Adds call kinds old new → raises_of new.list ≡ raises_of old.list
   added_raises kinds none adds = ap raises_of adds.list ∙ same_raises call kinds old.list none
+
+  pub freed_raises : (kinds : List (KindSeen V T)) → list_any is_raise kinds ≡ false → Frees call kinds old new → raises_of new.list ≡ raises_of old.list
+  freed_raises kinds none frees = ap raises_of frees.list ∙ same_raises call kinds old.list none
 
   pub fault_raises : (count place : ℕ) → Faults call count place old new → raises_of new.list ≡ raises_of old.list
   fault_raises count place faults = ap raises_of faults.leaves.list ∙ same_raises call (Fault Folder count ∷ []) old.list refl

@@ -1,4 +1,6 @@
+pub mod Applying
 pub mod Between
+pub mod Initialising
 pub mod Knows
 pub mod Own
 pub mod Phases

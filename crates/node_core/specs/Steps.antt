@@ -38,6 +38,11 @@ module _ {C F V T : Type 0} (c : codec_trait.Ghosts C V) (t : transform_trait.Gh
   abbrev pub RowFrom : Origin → At V T → ShelfSeen C F V T → Progress (Result ℕ UpdateError) → At V T → ShelfSeen C F V T → Type 0
   RowFrom origin at old gave at_after new = Row (rules_seen c t f old) old.store at (turned f origin at old origin at_after new) gave
 
+  -- a call that goes on has what its next step needs
+  abbrev pub StepEquips : Progress (Result ℕ UpdateError) → At V T → ShelfSeen C F V T → Type 0
+  StepEquips Moved at new = Equipped c t f at new
+  StepEquips other at new = Unit {0}
+
 module _ {P C F V T : Type 0} (c : codec_trait.Ghosts C V) (t : transform_trait.Ghosts T V) (f : folder_trait.Ghosts F) where
   abbrev pub WriteRow : Origin → At V T → ShelfSeen C F V T → Written P C T F V → ShelfSeen C F V T → Type 0
   WriteRow origin at old (written.Moved next) new = RowFrom c t f origin at old Moved (write_seen next) new

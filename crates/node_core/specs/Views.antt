@@ -13,8 +13,6 @@ use Rattle.shelf.specs.Calls.{At, Call, Plan}
 use Rattle.shelf.specs.Calls as at
 use Rattle.shelf.specs.ShelfSeen.{ShelfSeen}
 use Rattle.shelf.specs.World.{World, Turned}
-use Rattle.node_core.specs.declared.ending.Ending.{Ending}
-use Rattle.node_core.specs.declared.ending.Ending.TheVariants as ending
 use Rattle.node_core.specs.declared.init_call.InitCall.{InitCall}
 use Rattle.node_core.specs.declared.init_call.InitCall.TheVariants as init
 use Rattle.node_core.specs.declared.origin.Origin.{Origin}
@@ -27,10 +25,6 @@ use Rattle.node_core.specs.declared.write_call.WriteCall.TheVariants as write
 abbrev pub room_of : CallId → Option CallId → ℕ → ℕ
 room_of call None room = 0
 room_of call (Some owner) room = if is_call call owner then room else 0
-
-abbrev pub ending_seen : {T : Type 0} → Ending T → at.Ending T
-ending_seen (ending.Changed place) = at.Changed place
-ending_seen (ending.Kept edit) = at.Kept edit
 
 module _ {V T : Type 0} where
   -- a plan of which nothing is written, one that is being written, and one that is written
@@ -61,7 +55,8 @@ module _ {P C T F V : Type 0} where
   state_seen (state.Initialise edit init) = init_seen edit init
   state_seen (state.Read edit) = at.Reading edit
   state_seen (state.Write write) = write_seen write
-  state_seen (state.Sync ending) = at.SyncingFolder (ending_seen ending)
+  state_seen (state.SyncChanged place) = at.SyncingFolder (at.Changed place)
+  state_seen (state.SyncKept edit) = at.SyncingFolder (at.Kept edit)
   state_seen state.Gone = at.Gone
 
 module _ {C F V T : Type 0} (f : folder_trait.Ghosts F) where

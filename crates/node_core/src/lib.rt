@@ -3,9 +3,10 @@
 //! Its one contract above: a step is its row of the step table (`UpdateCall::step`).
 #![tactic(auto)]
 
-mod ending;
+mod applying;
 mod init_call;
 mod origin;
+mod read_errors;
 mod read_held;
 mod update_call;
 mod write_call;

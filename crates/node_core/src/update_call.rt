@@ -1,8 +1,9 @@
-use crate::ending::Ending;
 use crate::init_call::InitCall;
 use crate::origin::Origin;
 use crate::write_call::WriteCall;
 use shelf::Parts;
+
+mod stepping;
 
 /// An update in progress.
 #[derive(Drop)]
@@ -24,8 +25,10 @@ pub enum State<P: Parts> {
     Read { edit: P::T },
     /// The new value is to be written.
     Write { write: WriteCall<P> },
-    /// The folder is to be synced.
-    Sync { ending: Ending<P::T> },
+    /// The folder is to be synced, behind the value change at this place.
+    SyncChanged { at: u64 },
+    /// The folder is to be synced, for an edit that kept the value.
+    SyncKept { edit: P::T },
     /// The call has ended.
     Gone,
 }

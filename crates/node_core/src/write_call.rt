@@ -4,7 +4,6 @@ use shelf::{Parts, ValueOf};
 
 mod stepping;
 
-
 /// A value change on its way to main: its text goes to the scratch file, and that takes main's place.
 #[derive(Drop)]
 pub enum WriteCall<P: Parts> {

@@ -18,12 +18,7 @@ use store_traits::Word;
 
 impl<P: Parts> WriteCall<P> {
     /// The next step of a call of this origin, which owns the lock.
-    pub fn step<W: Word>(
-        self,
-        origin: Origin,
-        shelf: &mut Shelf<P>,
-        word: &mut W,
-    ) -> Written<P>
+    pub fn step<W: Word>(self, origin: Origin, shelf: &mut Shelf<P>, word: &mut W) -> Written<P>
         requires word { W.ready (W.made word.old) }
         requires number { W.number word.old ≡ raises_of (shelf_seen shelf.old).list }
         requires ready { Ready P.C.Codec P.T.Transform P.F.Folder origin (write_seen self) (shelf_seen shelf.old) }
