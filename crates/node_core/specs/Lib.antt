@@ -8,6 +8,7 @@ pub mod Plans
 pub mod ReadHeld
 pub mod Reading
 pub mod Ready
+pub mod Step
 pub mod Steps
 pub mod StepsLeft
 pub mod Views

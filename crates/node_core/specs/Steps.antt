@@ -1,5 +1,5 @@
 -- The steps of the parts of a call, each as its row of the step table.
-use Rattle.std.specs.Prelude.{◌≡◌, ℕ, Result, Err}
+use Rattle.std.specs.Prelude.{◌≡◌, ℕ, Bool, true, false, Result, Err}
 use Rattle.store_traits.specs.declared.codec.Codec as codec_trait
 use Rattle.store_traits.specs.declared.read_error.ReadError.{ReadError}
 use Rattle.store_traits.specs.declared.read_error.ReadError.TheVariants as read
@@ -13,6 +13,7 @@ use Rattle.shelf.specs.Calls.{At, First, SyncingFolder, Changed, Gone}
 use Rattle.shelf.specs.ShelfSeen.{ShelfSeen}
 use Rattle.shelf.specs.Turn.{Row}
 use Rattle.node_core.specs.declared.init_call.InitCall.{InitCall}
+use Rattle.node_core.specs.declared.init_call.InitCall.TheVariants as stage
 use Rattle.node_core.specs.declared.init_call.Initialised.{Initialised}
 use Rattle.node_core.specs.declared.init_call.Initialised.TheVariants as init
 use Rattle.node_core.specs.declared.origin.Origin.{Origin}
@@ -42,6 +43,16 @@ module _ {C F V T : Type 0} (c : codec_trait.Ghosts C V) (t : transform_trait.Gh
   abbrev pub StepEquips : Progress (Result ℕ UpdateError) → At V T → ShelfSeen C F V T → Type 0
   StepEquips Moved at new = Equipped c t f at new
   StepEquips other at new = Unit {0}
+
+module _ {P C F V T : Type 0} where
+  -- the step that ends the initialisation, and what it gives
+  abbrev pub is_last : InitCall P C T F V → Bool
+  is_last stage.Finish = true
+  is_last other = false
+
+  abbrev pub is_finished : Initialised P C T F V → Bool
+  is_finished init.Finished = true
+  is_finished other = false
 
 module _ {P C F V T : Type 0} (c : codec_trait.Ghosts C V) (t : transform_trait.Ghosts T V) (f : folder_trait.Ghosts F) where
   abbrev pub WriteRow : Origin → At V T → ShelfSeen C F V T → Written P C T F V → ShelfSeen C F V T → Type 0

@@ -3,6 +3,7 @@ use crate::origin::Origin;
 use crate::write_call::WriteCall;
 use shelf::Parts;
 
+mod at_step;
 mod stepping;
 
 /// An update in progress.

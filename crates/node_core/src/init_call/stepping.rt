@@ -5,7 +5,7 @@ ghost use Rattle.shelf.specs.AddsNode.{is_among};
 ghost use Rattle.shelf.specs.Calls as at;
 ghost use Rattle.shelf.specs.ShelfSeen.{shelf_seen};
 ghost use Rattle.node_core.specs.Initialising.{IsInitialising};
-ghost use Rattle.node_core.specs.Steps.{InitRow};
+ghost use Rattle.node_core.specs.Steps.{InitRow, is_finished, is_last};
 ghost use Rattle.node_core.specs.Views.{init_seen};
 
 use super::{InitCall, Initialised};
@@ -21,6 +21,7 @@ impl<P: Parts> InitCall<P> {
         requires ready { IsInitialising P.C.Codec P.T.Transform P.F.Folder origin self (shelf_seen shelf.old) }
         requires lives { is_dead origin.call.node (shelf_seen shelf.old).list ≡ false }
         ensures row { (edit : P.T) → InitRow P.C.Codec P.T.Transform P.F.Folder origin edit (init_seen edit self) (shelf_seen shelf.old) result (shelf_seen shelf.new) }
+        ensures finished { is_finished result ≡ is_last self }
         ensures raises { raises_of (shelf_seen shelf.new).list ≡ raises_of (shelf_seen shelf.old).list }
     {
         match self {
@@ -35,6 +36,7 @@ impl<P: Parts> InitCall<P> {
 fn read_first<P: Parts>(origin: Origin, alloc: Global, shelf: &mut Shelf<P>) -> Initialised<P>
     requires ready { IsInitialising {P = P} P.C.Codec P.T.Transform P.F.Folder origin InitCall.Read (shelf_seen shelf.old) }
     requires lives { is_dead origin.call.node (shelf_seen shelf.old).list ≡ false }
+    ensures finished { is_finished result ≡ false }
     ensures row { (edit : P.T) → InitRow P.C.Codec P.T.Transform P.F.Folder origin edit (at.ReadingFirst edit) (shelf_seen shelf.old) result (shelf_seen shelf.new) }
     ensures raises { raises_of (shelf_seen shelf.new).list ≡ raises_of (shelf_seen shelf.old).list }
 {
@@ -48,6 +50,7 @@ fn finish<P: Parts>(origin: Origin, shelf: &mut Shelf<P>) -> Initialised<P>
     requires node { is_among origin.call.node (shelf_seen shelf.old).store.nodes ≡ true }
     requires ready { IsInitialising {P = P} P.C.Codec P.T.Transform P.F.Folder origin InitCall.Finish (shelf_seen shelf.old) }
     requires lives { is_dead origin.call.node (shelf_seen shelf.old).list ≡ false }
+    ensures finished { is_finished result ≡ true }
     ensures row { (edit : P.T) → InitRow P.C.Codec P.T.Transform P.F.Folder origin edit (at.Finishing edit) (shelf_seen shelf.old) result (shelf_seen shelf.new) }
     ensures raises { raises_of (shelf_seen shelf.new).list ≡ raises_of (shelf_seen shelf.old).list }
 {

@@ -1,11 +1,13 @@
-ghost use Rattle.std.specs.Prelude.{◌≡◌, true, false};
+ghost use Rattle.std.specs.Prelude.{◌≡◌, ◌||◌, true, false};
 ghost use Rattle.hist_journal.specs.Folds.{raises_of};
 ghost use Rattle.hist_journal.specs.Nodes.{is_dead};
 ghost use Rattle.shelf.specs.AddsNode.{is_among};
 ghost use Rattle.shelf.specs.Calls as at;
+ghost use Rattle.shelf.specs.Calls.{is_gone};
 ghost use Rattle.shelf.specs.ShelfSeen.{shelf_seen};
+ghost use Rattle.node_core.specs.Phases.{is_finishing};
 ghost use Rattle.node_core.specs.Ready.{Ready};
-ghost use Rattle.node_core.specs.Steps.{RowFrom, StepEquips};
+ghost use Rattle.node_core.specs.Steps.{RowFrom, StepEquips, is_last};
 ghost use Rattle.node_core.specs.Views.{init_seen, state_seen, write_seen};
 
 use super::{State, UpdateCall};
@@ -17,9 +19,41 @@ use crate::write_call::{WriteCall, Written};
 use hist_journal::Kind;
 use shelf::{Parts, Progress, Shelf, Taken, Want};
 use std::alloc::Global;
+use std::mem;
 use store_traits::{UpdateError, Word};
 
 impl<P: Parts> UpdateCall<P> {
+    /// The row's own work, of a call that lives.
+    fn work<W: Word>(
+        &mut self,
+        alloc: Global,
+        shelf: &mut Shelf<P>,
+        word: &mut W,
+    ) -> Progress<Result<u64, UpdateError>>
+        requires running { is_gone (state_seen self.old.state) ≡ false }
+        requires word { W.ready (W.made word.old) }
+        requires number { W.number word.old ≡ raises_of (shelf_seen shelf.old).list }
+        requires node { is_among self.old.origin.call.node (shelf_seen shelf.old).store.nodes ≡ true }
+        requires ready { Ready P.C.Codec P.T.Transform P.F.Folder self.old.origin (state_seen self.old.state) (shelf_seen shelf.old) }
+        requires lives { is_dead self.old.origin.call.node (shelf_seen shelf.old).list ≡ false }
+        ensures row { RowFrom P.C.Codec P.T.Transform P.F.Folder self.old.origin (state_seen self.old.state) (shelf_seen shelf.old) result (state_seen self.new.state) (shelf_seen shelf.new) }
+        ensures equips { StepEquips P.C.Codec P.T.Transform P.F.Folder result (state_seen self.new.state) (shelf_seen shelf.new) }
+        ensures number { W.number word.new ≡ raises_of (shelf_seen shelf.new).list }
+        ensures made { W.made word.new ≡ W.made word.old }
+        ensures origin { self.new.origin ≡ self.old.origin }
+        ensures initialised { self.new.initialised ≡ (self.old.initialised || is_finishing (state_seen self.old.state)) }
+    {
+        match mem::replace(&mut self.state, State::Gone) {
+            State::First { edit } => self.take(alloc, shelf, edit),
+            State::Initialise { edit, init } => self.initialise(alloc, shelf, edit, init),
+            State::Read { edit } => self.read(alloc, shelf, edit),
+            State::Write { write } => self.write(shelf, word, write),
+            State::SyncChanged { at } => self.sync_changed(shelf, at),
+            State::SyncKept { edit } => self.sync_kept(shelf, edit),
+            State::Gone => unreachable!(),
+        }
+    }
+
     /// The lock is taken.
     fn take(
         &mut self,
@@ -76,6 +110,7 @@ impl<P: Parts> UpdateCall<P> {
         ensures row { RowFrom P.C.Codec P.T.Transform P.F.Folder self.old.origin (init_seen edit init) (shelf_seen shelf.old) result (state_seen self.new.state) (shelf_seen shelf.new) }
         ensures raises { raises_of (shelf_seen shelf.new).list ≡ raises_of (shelf_seen shelf.old).list }
         ensures origin { self.new.origin ≡ self.old.origin }
+        ensures initialised { self.new.initialised ≡ (self.old.initialised || is_last init) }
     {
         match init.step(self.origin, alloc, shelf) {
             Initialised::Moved(init) => {

@@ -1,0 +1,58 @@
+-- What a step of an update asks for, and what it is.
+use Rattle.std.specs.Prelude.{◌≡◌, ◌⊎◌, ◌<◌, ℕ, Bool, true, List, Result, Ok, Err}
+use Rattle.store_traits.specs.declared.codec.Codec as codec_trait
+use Rattle.store_traits.specs.declared.transform.Transform as transform_trait
+use Rattle.store_traits.specs.declared.update_error.UpdateError.{UpdateError}
+use Rattle.folder_disk.specs.declared.folder.Folder as folder_trait
+use Rattle.store_traits.specs.declared.ids.CallId.{CallId}
+use Rattle.hist_journal.specs.declared.seen.EntrySeen.{EntrySeen}
+use Rattle.hist_journal.specs.Nodes.{is_ready}
+use Rattle.shelf.specs.declared.progress.Progress.{Progress}
+use Rattle.shelf.specs.declared.progress.Progress.TheVariants.{Moved, Ended}
+use Rattle.shelf.specs.declared.store.Store.{Store}
+use Rattle.shelf.specs.Acknowledged.{IsUpdated}
+use Rattle.shelf.specs.Calls.{At, is_first}
+use Rattle.shelf.specs.Causes.{HasCause}
+use Rattle.shelf.specs.ShelfSeen.{ShelfSeen}
+use Rattle.shelf.specs.Turn.{Turn}
+use Rattle.shelf.specs.World.{Rules}
+use Rattle.node_core.specs.declared.origin.Origin.{Origin}
+use Rattle.node_core.specs.Between.{Between, Died}
+use Rattle.node_core.specs.Phases.{is_holding}
+use Rattle.node_core.specs.Ready.{Ready, rules_seen}
+use Rattle.node_core.specs.StepsLeft.{steps_left}
+use Rattle.node_core.specs.Views.{call_seen, turned, world_seen}
+
+module _ {C F V T : Type 0} (c : codec_trait.Ghosts C V) (t : transform_trait.Ghosts T V) (f : folder_trait.Ghosts F) where
+  -- the room that is kept for the lock's owner, in the history and in the folder
+  pub record KeepsRoom (last now : ShelfSeen C F V T) : Type 0 where
+    pub entries : now.room ≡ last.room
+    pub folder : f.room now.folder ≡ f.room last.folder
+
+  -- The shelf as the call's last turn left it, and what others did since: the store is the same, the history grew by
+  -- entries of others, and what a call owns that owns the lock is as it was, unless its node died. Before its earliest turn any
+  -- shelf serves in which nothing of the call stands.
+  pub record MayStep (origin : Origin) (initialised : Bool) (at : At V T) (now : ShelfSeen C F V T) : Type 0 where
+    pub last : ShelfSeen C F V T
+    pub ready : Ready c t f origin at last
+    pub readiness : initialised ≡ true → is_first at ≡ true → is_ready origin.call.node last.list ≡ true
+    pub between : Between (call_seen f origin at last) (world_seen f last) (world_seen f now)
+    pub codec : now.codec ≡ last.codec
+    pub store : now.store ≡ last.store
+    pub kept : is_holding at ≡ true → KeepsRoom last now ⊎ Died (call_seen f origin at last) between.more
+
+  -- one turn of the call
+  abbrev pub TurnFrom : Origin → At V T → ShelfSeen C F V T → Progress (Result ℕ UpdateError) → Origin → At V T → ShelfSeen C F V T → Type 0
+  TurnFrom origin at old gave origin_after at_after new = Turn (rules_seen c t f old) old.store (turned f origin at old origin_after at_after new) gave
+
+-- the call goes on, with fewer steps left
+abbrev pub StepsFall : {V T : Type 0} → ℕ → Bool → At V T → Progress (Result ℕ UpdateError) → Bool → At V T → Type 0
+StepsFall limit initialised at Moved initialised_after at_after = steps_left limit initialised_after at_after < steps_left limit initialised at
+StepsFall limit initialised at other initialised_after at_after = Unit {0}
+
+-- What the history shows of a call that has ended: that the update was acknowledged, or why not. `shown` is an edition
+-- that was reached before
+abbrev pub ShowsAnswer : {V T M : Type 0} → Rules V T → Store V M → (shown : ℕ) → CallId → T → List (EntrySeen V T) → Progress (Result ℕ UpdateError) → Type 0
+ShowsAnswer r s shown call edit list (Ended (Ok edition)) = IsUpdated call edit edition list
+ShowsAnswer r s shown call edit list (Ended (Err error)) = HasCause r s shown call edit error list
+ShowsAnswer r s shown call edit list other = Unit {0}

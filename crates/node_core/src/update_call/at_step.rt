@@ -1,0 +1,58 @@
+ghost use Rattle.std.specs.Prelude.{◌≡◌, true, if◌then◌else◌};
+ghost use Rattle.shelf.specs.Calls.{step_at};
+ghost use Rattle.node_core.specs.Views.{init_seen, state_seen, write_seen};
+
+use super::{State, UpdateCall};
+use crate::init_call::InitCall;
+use crate::write_call::WriteCall;
+use shelf::Parts;
+use store_traits::Step;
+
+impl<P: Parts> UpdateCall<P> {
+    /// The next step. A first turn is told as `I1` before this call has initialised its node, and as `U1` behind it; so is
+    /// a call that has ended as `I1`, since it has none.
+    pub fn at_step(&self) -> Step
+        ensures { result ≡ step_at self.now.initialised (state_seen self.now.state) }
+    {
+        match &self.state {
+            State::First { edit: _ } => self.first_step(),
+            State::Initialise { edit: _, init } => init.at_step(),
+            State::Read { edit: _ } => Step::U2,
+            State::Write { write } => write.at_step(),
+            State::SyncChanged { at: _ } | State::SyncKept { edit: _ } => Step::U8,
+            State::Gone => Step::I1,
+        }
+    }
+
+    fn first_step(&self) -> Step
+        ensures { result ≡ (if self.now.initialised then Step.U1 else Step.I1) }
+    {
+        if self.initialised { Step::U1 } else { Step::I1 }
+    }
+}
+
+impl<P: Parts> InitCall<P> {
+    fn at_step(&self) -> Step
+        ensures { (edit : P.T) → result ≡ step_at true (init_seen edit self.now) }
+    {
+        match self {
+            InitCall::Read => Step::I2,
+            InitCall::Migrate { value: _ } => Step::I3,
+            InitCall::Finish => Step::I6,
+        }
+    }
+}
+
+impl<P: Parts> WriteCall<P> {
+    fn at_step(&self) -> Step
+        ensures { result ≡ step_at true (write_seen self.now) }
+    {
+        match self {
+            WriteCall::Raise { plan: _, change: _ } => Step::U3,
+            WriteCall::Create { plan: _, change: _ } => Step::U4,
+            WriteCall::Append { plan: _, change: _ } => Step::U5,
+            WriteCall::SyncScratch { plan: _, change: _ } => Step::U6,
+            WriteCall::Rename { plan: _, change: _ } => Step::U7,
+        }
+    }
+}
