@@ -1,4 +1,5 @@
 pub mod Decided
+pub mod EachLemmas
 pub mod FileLemmas
 pub mod GatheringLemmas
 pub mod GrowthLemmas

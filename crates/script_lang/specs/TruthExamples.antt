@@ -1,0 +1,116 @@
+-- Scripts with transcripts that tell the truth of them, and transcripts that do not.
+use Rattle.std.specs.Prelude.{◌≡◌, ℕ, pos, List, [], ◌∷◌, ◌++◌, codes, Some, None, false}
+use Rattle.std.specs.List.{flat_map}
+use Rattle.store_traits.specs.declared.ids.CallId.{CallId}
+use Rattle.folder_disk.specs.declared.main_read.MainRead.{MainRead}
+use Rattle.folder_disk.specs.declared.main_read.MainRead.TheVariants as main
+use Rattle.hist_journal.specs.declared.seen.BaseSeen.{BaseSeen}
+use Rattle.hist_journal.specs.declared.seen.BaseSeen.TheVariants.{Held}
+use Rattle.hist_journal.specs.declared.seen.KindSeen.TheVariants.{Raise, Edit, Same, Synced, Inited}
+use Rattle.prefs_model.specs.declared.pref_pair.PrefPair.{PrefPair}
+use Rattle.prefs_model.specs.declared.pref_value.PrefValue.{PrefValue}
+use Rattle.prefs_model.specs.declared.pref_value.PrefValue.TheVariants.{Int}
+use Rattle.prefs_edit.specs.declared.edit_step.EditStep.{EditStep}
+use Rattle.prefs_edit.specs.declared.edit_step.EditStep.TheVariants.{Set, AddInt}
+use Rattle.prefs_edit.specs.After.{after_steps}
+use Rattle.prefs_edit.specs.Weight.{edit_weight}
+use Rattle.prefs_text.specs.declared.names.Names.{Names}
+use Rattle.prefs_text.specs.declared.seen.AnswerLineSeen.{AnswerLineSeen}
+use Rattle.prefs_text.specs.declared.seen.AnswerSeen.{AnswerSeen}
+use Rattle.prefs_text.specs.declared.seen.AnswerSeen.TheVariants.{Updated, Refused}
+use Rattle.prefs_text.specs.EntryText.{PrefEntry, PrefKind}
+use Rattle.shelf.specs.World.{rules_of}
+use Rattle.script_lang.specs.declared.file_seen.FileSeen.{FileSeen}
+use Rattle.script_lang.specs.declared.file_seen.FileSeen.TheVariants.{Absent, Bytes}
+use Rattle.script_lang.specs.declared.run_line.Act.TheVariants.{Update, Go}
+use Rattle.script_lang.specs.declared.run_line.RunLine.{RunLine}
+use Rattle.script_lang.specs.declared.script.Script.{Script}
+use Rattle.script_lang.specs.declared.transcript.Transcript.{Transcript}
+use Rattle.script_lang.specs.Chronicle.{Basis}
+use Rattle.script_lang.specs.TranscriptView.{SessionSeen}
+
+abbrev pub number_of : PrefValue → ℕ
+number_of (Int (pos n)) = n
+number_of other = 0
+
+-- a file has, of each pair, the key and the number
+abbrev pub encoded : List PrefPair → List ℕ
+encoded map = flat_map (λ pair. pair.key ++ number_of pair.value ∷ []) map
+
+abbrev pub basis : Basis
+basis = record { rules = rules_of after_steps edit_weight encoded (λ bytes map. bytes ≡ encoded map) []; file_limit = 1048576; weight_limit = 268435456 }
+
+abbrev pub holds : List ℕ → ℕ → List PrefPair
+holds key n = record { key = key; value = Int (pos n) } ∷ []
+
+abbrev pub add : List ℕ → List EditStep
+add key = AddInt key (pos 1) ∷ []
+
+abbrev pub set : List ℕ → ℕ → List EditStep
+set key n = Set key (Int (pos n)) ∷ []
+
+-- client a is on the first node, client b on the second
+abbrev pub names : Names
+names = record { nodes = codes "n1" ∷ codes "n2" ∷ []; clients = codes "a" ∷ codes "b" ∷ [] }
+
+abbrev pub a : ℕ → CallId
+a number = record { node = record { 0 = 0 }; client = record { 0 = 0 }; number = number }
+
+abbrev pub b : ℕ → CallId
+b number = record { node = record { 0 = 1 }; client = record { 0 = 1 }; number = number }
+
+abbrev pub asks : CallId → List EditStep → RunLine
+asks call edit = record { client = call.client; act = Update edit }
+
+abbrev pub goes : CallId → ℕ → RunLine
+goes call steps = record { client = call.client; act = Go steps }
+
+-- a script of one session
+abbrev pub script : MainRead → List RunLine → Script
+script file lines =
+    record {
+      names = names;
+      homes = record { 0 = 0 } ∷ record { 0 = 1 } ∷ [];
+      start = record { file = file; entries = 100000; replace = false };
+      sessions = record { folder_faults = []; fuse = None; deaths = []; lines = lines; stop = None } ∷ [];
+    }
+
+abbrev pub answered : CallId → AnswerSeen → AnswerLineSeen
+answered call answer = record { call = call; poster = None; answer = answer }
+
+abbrev pub entry : CallId → PrefKind → PrefEntry
+entry call kind = record { who = call; kind = kind }
+
+-- a transcript of one session
+abbrev pub told : List PrefPair → List AnswerLineSeen → List PrefEntry → FileSeen → Transcript
+told base answers entries file = record { names = names; sessions = record { base = Held base; answers = answers; entries = entries; file = file } ∷ [] }
+
+-- two nodes add 1, one after the other
+abbrev pub two_nodes : Script
+two_nodes = script main.Absent (asks (a 1) (add (codes "x")) ∷ asks (b 1) (add (codes "x")) ∷ goes (a 1) 5 ∷ goes (b 1) 1 ∷ [])
+
+abbrev pub update : CallId → List EditStep → List PrefEntry
+update call edit = entry call (Inited call.node) ∷ entry call Raise ∷ entry call (Edit edit) ∷ entry call Synced ∷ []
+
+abbrev pub two_nodes_told : Transcript
+two_nodes_told =
+    told [] (answered (a 1) (Updated 1) ∷ answered (b 1) (Updated 2) ∷ []) (update (a 1) (add (codes "x")) ++ update (b 1) (add (codes "x"))) (Bytes (encoded (holds (codes "x") 2)))
+
+-- what is there already is set
+abbrev pub equal_value : Script
+equal_value = script (main.Bytes (encoded (holds (codes "k") 1))) (asks (a 1) (set (codes "k") 1) ∷ [])
+
+abbrev pub equal_value_told : Transcript
+equal_value_told =
+    told
+    (holds (codes "k") 1)
+    (answered (a 1) (Updated 0) ∷ [])
+    (entry (a 1) (Inited (a 1).node) ∷ entry (a 1) (Same (set (codes "k") 1)) ∷ entry (a 1) Synced ∷ [])
+    (Bytes (encoded (holds (codes "k") 1)))
+
+-- the greatest number is set, and 1 more is refused
+abbrev pub greatest : Script
+greatest = script main.Absent (asks (a 1) (set (codes "n") 2147483647) ∷ asks (a 2) (add (codes "n")) ∷ [])
+
+abbrev pub greatest_told : Transcript
+greatest_told = told [] (answered (a 1) (Updated 1) ∷ answered (a 2) (Refused 2 1) ∷ []) (update (a 1) (set (codes "n") 2147483647)) (Bytes (encoded (holds (codes "n") 2147483647)))
