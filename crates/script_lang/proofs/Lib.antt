@@ -11,6 +11,7 @@ pub mod NameLemmas
 pub mod NameRows
 pub mod OneFile
 pub mod OneMeaning
+pub mod OneSession
 pub mod OneRow
 pub mod ReadLines
 pub mod ReadSoFar
@@ -20,4 +21,5 @@ pub mod ScriptLaws
 pub mod SessionLemmas
 pub mod StartRows
 pub mod TestLemmas
+pub mod TruthExamples
 pub mod WordLemmas

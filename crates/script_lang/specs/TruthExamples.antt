@@ -25,6 +25,7 @@ use Rattle.script_lang.specs.declared.file_seen.FileSeen.TheVariants.{Absent, By
 use Rattle.script_lang.specs.declared.run_line.Act.TheVariants.{Update, Go}
 use Rattle.script_lang.specs.declared.run_line.RunLine.{RunLine}
 use Rattle.script_lang.specs.declared.script.Script.{Script}
+use Rattle.script_lang.specs.declared.session_plan.SessionPlan.{SessionPlan}
 use Rattle.script_lang.specs.declared.transcript.Transcript.{Transcript}
 use Rattle.script_lang.specs.Chronicle.{Basis}
 use Rattle.script_lang.specs.TranscriptView.{SessionSeen}
@@ -65,15 +66,12 @@ asks call edit = record { client = call.client; act = Update edit }
 abbrev pub goes : CallId → ℕ → RunLine
 goes call steps = record { client = call.client; act = Go steps }
 
+abbrev pub plan : List RunLine → SessionPlan
+plan lines = record { folder_faults = []; fuse = None; deaths = []; lines = lines; stop = None }
+
 -- a script of one session
-abbrev pub script : MainRead → List RunLine → Script
-script file lines =
-    record {
-      names = names;
-      homes = record { 0 = 0 } ∷ record { 0 = 1 } ∷ [];
-      start = record { file = file; entries = 100000; replace = false };
-      sessions = record { folder_faults = []; fuse = None; deaths = []; lines = lines; stop = None } ∷ [];
-    }
+abbrev pub script : MainRead → SessionPlan → Script
+script file plan = record { names = names; homes = record { 0 = 0 } ∷ record { 0 = 1 } ∷ []; start = record { file = file; entries = 100000; replace = false }; sessions = plan ∷ [] }
 
 abbrev pub answered : CallId → AnswerSeen → AnswerLineSeen
 answered call answer = record { call = call; poster = None; answer = answer }
@@ -81,36 +79,57 @@ answered call answer = record { call = call; poster = None; answer = answer }
 abbrev pub entry : CallId → PrefKind → PrefEntry
 entry call kind = record { who = call; kind = kind }
 
--- a transcript of one session
-abbrev pub told : List PrefPair → List AnswerLineSeen → List PrefEntry → FileSeen → Transcript
-told base answers entries file = record { names = names; sessions = record { base = Held base; answers = answers; entries = entries; file = file } ∷ [] }
-
--- two nodes add 1, one after the other
-abbrev pub two_nodes : Script
-two_nodes = script main.Absent (asks (a 1) (add (codes "x")) ∷ asks (b 1) (add (codes "x")) ∷ goes (a 1) 5 ∷ goes (b 1) 1 ∷ [])
-
+-- the first update of a node
 abbrev pub update : CallId → List EditStep → List PrefEntry
 update call edit = entry call (Inited call.node) ∷ entry call Raise ∷ entry call (Edit edit) ∷ entry call Synced ∷ []
 
-abbrev pub two_nodes_told : Transcript
+abbrev pub told : SessionSeen → Transcript
+told session = record { names = names; sessions = session ∷ [] }
+
+-- two nodes add 1, one after the other
+abbrev pub two_nodes_plan : SessionPlan
+two_nodes_plan = plan (asks (a 1) (add (codes "x")) ∷ asks (b 1) (add (codes "x")) ∷ goes (a 1) 5 ∷ goes (b 1) 1 ∷ [])
+
+abbrev pub two_nodes : Script
+two_nodes = script main.Absent two_nodes_plan
+
+abbrev pub two_nodes_told : SessionSeen
 two_nodes_told =
-    told [] (answered (a 1) (Updated 1) ∷ answered (b 1) (Updated 2) ∷ []) (update (a 1) (add (codes "x")) ++ update (b 1) (add (codes "x"))) (Bytes (encoded (holds (codes "x") 2)))
+    record {
+      base = Held [];
+      answers = answered (a 1) (Updated 1) ∷ answered (b 1) (Updated 2) ∷ [];
+      entries = update (a 1) (add (codes "x")) ++ update (b 1) (add (codes "x"));
+      file = Bytes (encoded (holds (codes "x") 2));
+    }
 
 -- what is there already is set
-abbrev pub equal_value : Script
-equal_value = script (main.Bytes (encoded (holds (codes "k") 1))) (asks (a 1) (set (codes "k") 1) ∷ [])
+abbrev pub equal_value_plan : SessionPlan
+equal_value_plan = plan (asks (a 1) (set (codes "k") 1) ∷ [])
 
-abbrev pub equal_value_told : Transcript
+abbrev pub equal_value : Script
+equal_value = script (main.Bytes (encoded (holds (codes "k") 1))) equal_value_plan
+
+abbrev pub equal_value_told : SessionSeen
 equal_value_told =
-    told
-    (holds (codes "k") 1)
-    (answered (a 1) (Updated 0) ∷ [])
-    (entry (a 1) (Inited (a 1).node) ∷ entry (a 1) (Same (set (codes "k") 1)) ∷ entry (a 1) Synced ∷ [])
-    (Bytes (encoded (holds (codes "k") 1)))
+    record {
+      base = Held (holds (codes "k") 1);
+      answers = answered (a 1) (Updated 0) ∷ [];
+      entries = entry (a 1) (Inited (a 1).node) ∷ entry (a 1) (Same (set (codes "k") 1)) ∷ entry (a 1) Synced ∷ [];
+      file = Bytes (encoded (holds (codes "k") 1));
+    }
 
 -- the greatest number is set, and 1 more is refused
-abbrev pub greatest : Script
-greatest = script main.Absent (asks (a 1) (set (codes "n") 2147483647) ∷ asks (a 2) (add (codes "n")) ∷ [])
+abbrev pub greatest_plan : SessionPlan
+greatest_plan = plan (asks (a 1) (set (codes "n") 2147483647) ∷ asks (a 2) (add (codes "n")) ∷ [])
 
-abbrev pub greatest_told : Transcript
-greatest_told = told [] (answered (a 1) (Updated 1) ∷ answered (a 2) (Refused 2 1) ∷ []) (update (a 1) (set (codes "n") 2147483647)) (Bytes (encoded (holds (codes "n") 2147483647)))
+abbrev pub greatest : Script
+greatest = script main.Absent greatest_plan
+
+abbrev pub greatest_told : SessionSeen
+greatest_told =
+    record {
+      base = Held [];
+      answers = answered (a 1) (Updated 1) ∷ answered (a 2) (Refused 2 1) ∷ [];
+      entries = update (a 1) (set (codes "n") 2147483647);
+      file = Bytes (encoded (holds (codes "n") 2147483647));
+    }

@@ -4,7 +4,7 @@ ghost use Rattle.script_lang.specs.TruthExamples as example;
 
 /// Each of these transcripts tells the truth of its script.
 pub fn transcripts_are_good()
-    ensures two_nodes { Good example.basis example.two_nodes example.two_nodes_told }
-    ensures equal_value { Good example.basis example.equal_value example.equal_value_told }
-    ensures greatest { Good example.basis example.greatest example.greatest_told }
+    ensures two_nodes { Good example.basis example.two_nodes (example.told example.two_nodes_told) }
+    ensures equal_value { Good example.basis example.equal_value (example.told example.equal_value_told) }
+    ensures greatest { Good example.basis example.greatest (example.told example.greatest_told) }
 {}
