@@ -1,7 +1,10 @@
 pub mod Decided
 pub mod EachLemmas
+pub mod EqualValueTold
+pub mod ExampleMaps
 pub mod FileLemmas
 pub mod GatheringLemmas
+pub mod GreatestTold
 pub mod GrowthLemmas
 pub mod KeepsLemmas
 pub mod LeastFault
@@ -11,8 +14,8 @@ pub mod NameLemmas
 pub mod NameRows
 pub mod OneFile
 pub mod OneMeaning
-pub mod OneSession
 pub mod OneRow
+pub mod OneSession
 pub mod ReadLines
 pub mod ReadSoFar
 pub mod RowFaults
@@ -21,5 +24,5 @@ pub mod ScriptLaws
 pub mod SessionLemmas
 pub mod StartRows
 pub mod TestLemmas
-pub mod TruthExamples
+pub mod TwoNodesTold
 pub mod WordLemmas

@@ -1,5 +1,7 @@
-use Rattle.script_lang.proofs.TruthExamples.{two_nodes_good}
+use Rattle.script_lang.proofs.EqualValueTold.{equal_value_good}
+use Rattle.script_lang.proofs.GreatestTold.{greatest_good}
+use Rattle.script_lang.proofs.TwoNodesTold.{two_nodes_good}
 use Rattle.script_lang.proofs.truth_examples.transcripts_are_good.Goals as goal
 
 pub returns : goal.returns
-returns c = record { two_nodes = two_nodes_good; equal_value = ?; greatest = ? }
+returns c = record { two_nodes = two_nodes_good; equal_value = equal_value_good; greatest = greatest_good }

@@ -1,4 +1,4 @@
--- The transcripts of the examples that tell the truth.
+-- The transcript of two nodes tells the truth.
 use Rattle.std.proofs.Common.{◌≡◌, ◌∙◌, ◌≤◌, ◌<◌, ◌⊎◌, inl, inr, ℕ, zero, suc, ◌==◌, nat_le, Bool, true, false, List, [], ◌∷◌, ◌++◌, codes, length, map, None, Some, refl, sym, ap, arith}
 use Rattle.std.specs.List.{filter, list_any}
 use Rattle.std.proofs.lemmas.Bool.{eq-eqb}
@@ -28,20 +28,10 @@ use Rattle.script_lang.specs.TranscriptView.{SessionSeen}
 use Rattle.script_lang.specs.TruthExamples.{a, add, answered, b, basis, entry, holds, number_of, set, told, two_nodes, two_nodes_plan, two_nodes_told, update}
 use Rattle.script_lang.proofs.EachLemmas.{each_walked}
 use Rattle.script_lang.proofs.OneSession.{SessionIsGood, good_of_one, legal_walked, only}
+use Rattle.script_lang.proofs.ExampleMaps.{other_number}
 
 abbrev x : List ℕ
 x = codes "x"
-
--- the number of the first pair
-abbrev first_number : List PrefPair → ℕ
-first_number [] = 0
-first_number (pair ∷ pairs) = number_of pair.value
-
-other_number : (key : List ℕ) (n m : ℕ) → (n == m) ≡ false → holds key n ≡ holds key m → ⊥
-other_number key n m other is =
-    let same : n ≡ m = ap first_number is in
-    let equal : (n == m) ≡ true = eq-eqb n m same in
-    never (sym other ∙ equal)
 
 abbrev two_nodes_chapter : Chapter
 two_nodes_chapter = only basis two_nodes two_nodes_plan two_nodes_told
