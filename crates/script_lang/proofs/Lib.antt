@@ -25,4 +25,5 @@ pub mod SessionLemmas
 pub mod StartRows
 pub mod TestLemmas
 pub mod TwoNodesTold
+pub mod UntrueExamples
 pub mod WordLemmas

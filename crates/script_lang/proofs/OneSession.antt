@@ -75,3 +75,7 @@ module _ (b : Basis) (script : Script) (plan : SessionPlan) (told : SessionSeen)
 
     pub good_of_one : SessionIsGood → Good b script transcript
     good_of_one g = record { names = names; homes = rw one_chapter (of_one (λ before c. HasHomes script c) g.homes); rules = rw one_chapter (rules_hold g) }
+
+    -- the rules of a transcript that tells the truth, as they speak of its session
+    pub rules_of_one : Good b script transcript → KeepsRules b Scripted script transcript (only ∷ [])
+    rules_of_one g = rw one_chapter at g.rules

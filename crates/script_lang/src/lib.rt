@@ -52,6 +52,6 @@ pub use session_list::SessionList;
 pub use session_plan::SessionPlan;
 pub use start::Start;
 pub use transcript::Transcript;
-pub use truth_examples::transcripts_are_good;
+pub use truth_examples::{transcripts_are_good, transcripts_are_no_good};
 pub use write_text_error::WriteTextError;
 pub use writing::write_transcript;

@@ -8,3 +8,17 @@ pub fn transcripts_are_good()
     ensures equal_value { Good example.basis example.equal_value (example.told example.equal_value_told) }
     ensures greatest { Good example.basis example.greatest (example.told example.greatest_told) }
 {}
+
+/// None of these does. Each but the last two is the transcript of `two_nodes` with one thing changed.
+pub fn transcripts_are_no_good()
+    ensures answer_missing { Good example.basis example.two_nodes (example.told example.answer_missing) → ⊥ }
+    ensures edition_too_high { Good example.basis example.two_nodes (example.told example.edition_too_high) → ⊥ }
+    ensures synced_left_out { Good example.basis example.two_nodes (example.told example.synced_left_out) → ⊥ }
+    ensures answers_out_of_order { Good example.basis example.two_nodes (example.told example.answers_out_of_order) → ⊥ }
+    ensures base_from_the_end { Good example.basis example.two_nodes (example.told example.base_from_the_end) → ⊥ }
+    ensures file_of_the_start { Good example.basis example.two_nodes (example.told example.file_of_the_start) → ⊥ }
+    ensures fault_without_entry { Good example.basis example.two_nodes (example.told example.fault_without_entry) → ⊥ }
+    ensures cut_without_stop { Good example.basis example.two_nodes (example.told example.cut_without_stop) → ⊥ }
+    ensures edits_exchanged { Good example.basis example.two_sets (example.told example.edits_exchanged) → ⊥ }
+    ensures read_too_early { Good example.basis example.update_then_read (example.told example.read_too_early) → ⊥ }
+{}
