@@ -1,5 +1,5 @@
 -- What holds of each element of a list, element by element.
-use Rattle.std.proofs.Common.{◌≡◌, ◌∙◌, Bool, true, false, List, [], ◌∷◌, ◌++◌, refl, sym, ap, append_assoc, append-nil}
+use Rattle.std.proofs.Common.{◌≡◌, List, [], ◌∷◌, ◌++◌, ap, append_assoc, append-nil}
 use Rattle.script_lang.specs.Each.{Each}
 
 abbrev head_or : {X : Type 0} → X → List X → X
@@ -10,10 +10,6 @@ abbrev tail : {X : Type 0} → List X → List X
 tail [] = []
 tail (y ∷ ys) = ys
 
-nothing_stands_in_none : {X : Type 0} (before behind : List X) (x : X) → [] ≡ before ++ x ∷ behind → ⊥
-nothing_stands_in_none [] behind x e = cc
-nothing_stands_in_none (y ∷ before) behind x e = cc
-
 module _ {X : Type 0} (Holds : List X → X → Type 0) where
   -- it holds of each of these, where those stand before
   abbrev pub Walked : List X → List X → Type 0
@@ -21,7 +17,8 @@ module _ {X : Type 0} (Holds : List X → X → Type 0) where
   Walked before (x ∷ xs) = Holds before x × Walked (before ++ x ∷ []) xs
 
   walked_to : (before list front : List X) (x : X) (behind : List X) → Walked before list → list ≡ front ++ x ∷ behind → Holds (before ++ front) x
-  walked_to before [] front x behind walked is = absurd (nothing_stands_in_none front behind x is)
+  walked_to before [] [] x behind walked is = absurd (cc)
+  walked_to before [] (z ∷ zs) x behind walked is = absurd (cc)
   walked_to before (y ∷ ys) [] x behind walked is =
       let same : y ≡ x = ap (head_or x) is in
       let here : Holds before x = rw same at walked.0 in

@@ -1,34 +1,27 @@
 -- The transcript of the greatest number tells the truth.
-use Rattle.std.proofs.Common.{◌≡◌, ◌∙◌, ◌≤◌, ◌<◌, ◌⊎◌, inl, inr, ℕ, zero, suc, ◌==◌, nat_le, Bool, true, false, List, [], ◌∷◌, ◌++◌, codes, length, map, None, Some, refl, sym, ap, arith}
-use Rattle.std.specs.List.{filter, list_any}
-use Rattle.std.proofs.lemmas.Bool.{eq-eqb}
+use Rattle.std.proofs.Common.{◌≡◌, ◌<◌, ◌⊎◌, inr, ℕ, zero, suc, ◌==◌, true, false, List, [], ◌∷◌, codes, map, refl, arith}
+use Rattle.std.specs.List.{filter}
 use Rattle.std.proofs.lemmas.Bool.Decides.{nat_tests}
 use Rattle.store_traits.specs.declared.ids.ClientId.{ClientId}
 use Rattle.hist_journal.specs.Folds.{applied_or, edited, edition_of, main_of, text_or, value_after, value_of}
 use Rattle.hist_journal.specs.Nodes.{is_dead, is_ready, last_mark}
-use Rattle.hist_journal.specs.declared.seen.KindSeen.TheVariants.{Raise, Edit, Same, Synced, Inited}
-use Rattle.prefs_text.specs.declared.seen.AnswerSeen.TheVariants.{Updated, Refused}
+use Rattle.hist_journal.specs.declared.seen.KindSeen.TheVariants.{Raise, Edit, Synced, Inited}
+use Rattle.prefs_text.specs.declared.seen.AnswerSeen.TheVariants.{Updated}
 use Rattle.shelf.proofs.Bools.{never}
-use Rattle.prefs_model.specs.declared.pref_pair.PrefPair.{PrefPair}
 use Rattle.prefs_edit.specs.After.{after_steps}
 use Rattle.prefs_edit.specs.Step.{after_step}
-use Rattle.shelf.specs.Images.{changed_mains, images, kept_front, unkept}
-use Rattle.shelf.specs.Legal.{Legal}
 use Rattle.shelf.specs.OpenRaise.{has_open_raise}
-use Rattle.script_lang.specs.declared.script.Script.{Script}
 use Rattle.script_lang.specs.declared.run_line.Act.TheVariants.{Update}
 use Rattle.script_lang.specs.Asked.{asked_by, is_actor}
 use Rattle.script_lang.specs.Chronicle.{Chapter, IsLawful}
-use Rattle.script_lang.specs.Good.{Good, TellsFile}
+use Rattle.script_lang.specs.Good.{Good}
 use Rattle.script_lang.specs.GoodAnswers.{AnswersCalls, HasHomes, IsAsked, is_answer_of, is_asked_of}
 use Rattle.script_lang.specs.GoodCauses.{HasCauses}
 use Rattle.script_lang.specs.Shown.{shown_to}
 use Rattle.script_lang.specs.GoodUpdates.{Acknowledges}
-use Rattle.script_lang.specs.TranscriptView.{SessionSeen}
-use Rattle.script_lang.specs.TruthExamples.{a, add, answered, b, basis, entry, holds, number_of, set, told, greatest, greatest_plan, greatest_told, update}
+use Rattle.script_lang.specs.TruthExamples.{a, add, answered, basis, entry, holds, set, told, greatest, greatest_plan, greatest_told}
 use Rattle.script_lang.proofs.EachLemmas.{each_walked}
-use Rattle.script_lang.proofs.OneSession.{SessionIsGood, good_of_one, legal_walked, only}
-use Rattle.script_lang.proofs.ExampleMaps.{other_number}
+use Rattle.script_lang.proofs.OneSession.{good_of_one, legal_walked, only}
 
 abbrev key : List ℕ
 key = codes "n"
@@ -39,8 +32,8 @@ chapter = only basis greatest greatest_plan greatest_told
 homes : HasHomes greatest chapter
 homes =
     record {
-      answers = each_walked _ greatest_told.answers (record { home = refl; poster = refl; poster_home = tt }, (record { home = refl; poster = refl; poster_home = tt }, tt));
-      entries = each_walked _ greatest_told.entries (refl, (refl, (refl, (refl, tt))));
+      answers = each_walked _ greatest_told.answers (record { home = record { known = omega arith; home = refl }; poster = refl; poster_home = tt }, (record { home = record { known = omega arith; home = refl }; poster = refl; poster_home = tt }, tt));
+      entries = each_walked _ greatest_told.entries (record { known = omega arith; home = refl }, (record { known = omega arith; home = refl }, (record { known = omega arith; home = refl }, (record { known = omega arith; home = refl }, tt))));
     }
 
 lawful : IsLawful basis chapter
@@ -64,6 +57,7 @@ answers =
   where
     own : (false ≡ true) ⊎ IsAsked chapter (a 1) (λ act. Unit {0})
     own = inr (record { act = Update (set key 2147483647); asked = (0, omega arith, refl); fits = tt })
+
     each_once : (client : ℕ) → client < 2 → map (λ line. line.call) (filter (is_answer_of client) greatest_told.answers) ≡ map (λ asked. asked.call) (filter (is_asked_of client) chapter.asked)
     each_once zero low = refl
     each_once (suc zero) low = refl

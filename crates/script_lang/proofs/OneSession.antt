@@ -1,10 +1,8 @@
 -- A transcript of one session tells the truth, where the session does.
-use Rattle.std.proofs.Common.{◌≡◌, ◌∙◌, ◌≤◌, ℕ, ◌==◌, nat_le, Bool, true, false, List, [], ◌∷◌, ◌++◌, length, map, refl, sym, ap, arith}
-use Rattle.std.specs.List.{filter, list_any}
-use Rattle.std.proofs.lemmas.Bool.Decides.{nat_tests}
+use Rattle.std.proofs.Common.{◌≡◌, true, List, [], ◌∷◌, refl}
+use Rattle.std.specs.List.{filter}
 use Rattle.store_traits.specs.declared.ids.ClientId.{ClientId}
 use Rattle.hist_journal.specs.declared.seen.EntrySeen.{EntrySeen}
-use Rattle.prefs_text.specs.declared.seen.AnswerLineSeen.{AnswerLineSeen}
 use Rattle.shelf.specs.declared.store.Store.{Store}
 use Rattle.shelf.specs.Legal.{Legal}
 use Rattle.shelf.specs.Meanings.{Meanings}
@@ -18,7 +16,7 @@ use Rattle.script_lang.specs.Each.{Each}
 use Rattle.script_lang.specs.Good.{Good, KeepsPlans, KeepsRules, Scripted, TellsFile, chapters_of}
 use Rattle.script_lang.specs.GoodAnswers.{AnswersCalls, HasHomes, is_answer_of}
 use Rattle.script_lang.specs.GoodCauses.{HasCauses}
-use Rattle.script_lang.specs.GoodPosts.{DoesJobs, answers_of, count_from}
+use Rattle.script_lang.specs.GoodPosts.{DoesJobs, count_from}
 use Rattle.script_lang.specs.GoodReads.{GivesValues, KeepsFresh}
 use Rattle.script_lang.specs.GoodUpdates.{Acknowledges}
 use Rattle.script_lang.specs.TranscriptView.{SessionSeen}

@@ -1,7 +1,5 @@
 -- The transcripts of the examples that do not tell the truth: each breaks a rule.
-use Rattle.std.proofs.Common.{◌≡◌, ◌∙◌, ◌+◌, ◌<◌, ◌≤◌, ◌⊎◌, inl, inr, ℕ, zero, suc, ◌==◌, Bool, true, false, List, [], ◌∷◌, ◌++◌, codes, length, map, Contains, Some, None, refl, sym, ap, arith, append_assoc}
-use Rattle.std.specs.List.{filter, list_any}
-use Rattle.std.proofs.lemmas.Bool.{eq-eqb}
+use Rattle.std.proofs.Common.{◌≡◌, ◌∙◌, ◌+◌, ◌≤◌, ◌⊎◌, inl, inr, ℕ, zero, suc, true, false, List, [], ◌∷◌, ◌++◌, codes, Contains, refl, sym, ap, arith, append_assoc}
 use Rattle.hist_journal.specs.Folds.{applied_or, edited, edition_of, main_of, text_or, value_after, value_of}
 use Rattle.hist_journal.proofs.FoldLemmas.{edition_of-append}
 use Rattle.prefs_edit.specs.declared.edit_step.EditStep.{EditStep}
@@ -14,7 +12,6 @@ use Rattle.shelf.specs.Entries.{is_own, is_update}
 use Rattle.shelf.specs.Images.{is_synced}
 use Rattle.shelf.specs.Places.{is_fault_of}
 use Rattle.hist_journal.specs.declared.device.Device.TheVariants.{Folder}
-use Rattle.hist_journal.specs.declared.seen.KindSeen.TheVariants.{Raise, Edit, Synced, Inited}
 use Rattle.prefs_text.specs.declared.seen.AnswerSeen.TheVariants as answer
 use Rattle.prefs_text.specs.declared.seen.AnswerSeen.TheVariants.{Updated}
 use Rattle.shelf.proofs.Bools.{never}
@@ -23,8 +20,6 @@ use Rattle.shelf.specs.Causes.{IsFaulted}
 use Rattle.prefs_text.specs.declared.seen.AnswerLineSeen.{AnswerLineSeen}
 use Rattle.script_lang.specs.declared.run_line.Act.{Act}
 use Rattle.script_lang.specs.declared.run_line.Act.TheVariants.{Update}
-use Rattle.script_lang.specs.declared.script.Script.{Script}
-use Rattle.script_lang.specs.declared.session_plan.SessionPlan.{SessionPlan}
 use Rattle.script_lang.specs.Asked.{Asked, asked_by}
 use Rattle.script_lang.specs.Chronicle.{Chapter}
 use Rattle.script_lang.specs.Good.{Good, KeepsRules, Scripted}
@@ -149,11 +144,16 @@ not_its_edit : (before : List PrefEntry) (e : PrefEntry) (behind : List PrefEntr
 not_its_edit =
     each_walked
     (λ before e. is_own is_update (a 1) e ≡ true → Carries (set (codes "x") 1) e.kind → ⊥)
-    example.edits_exchanged.entries
-    (λ own. never own,
-    (λ own. never own,
-    (λ own carried. let same : 2 ≡ 1 = ap number_set carried in absurd (omega (arith, same)),
-    (λ own. never own, (λ own. never own, (λ own. never own, (λ own. never own, (λ own. never own, tt))))))))
+    example.edits_exchanged.entries (
+      λ own. never own,
+      (
+        λ own. never own,
+        (
+          λ own carried. let same : 2 ≡ 1 = ap number_set carried in absurd (omega (arith, same)),
+          (λ own. never own, (λ own. never own, (λ own. never own, (λ own. never own, (λ own. never own, tt))))),
+        ),
+      ),
+    )
 
 pub no-edits_exchanged : Good basis two_sets (told example.edits_exchanged) → ⊥
 unfolding asked_by

@@ -1,5 +1,5 @@
 -- Which answers a call may have, by what it asks for; and which of them are errors.
-use Rattle.std.specs.Prelude.{ℕ, Bool, true, false, ◌||◌, Option, Some, None, is_some}
+use Rattle.std.specs.Prelude.{Bool, true, false, ◌||◌, Option, Some, None, is_some}
 use Rattle.store_traits.specs.declared.read_error.ReadError.{ReadError}
 use Rattle.store_traits.specs.declared.read_error.ReadError.TheVariants as read
 use Rattle.store_traits.specs.declared.update_error.UpdateError.{UpdateError}

@@ -1,5 +1,5 @@
 -- The calls that a script asks for, and who makes calls.
-use Rattle.std.specs.Prelude.{ℕ, ◌+◌, ◌-◌, ◌==◌, ◌&&◌, nat_le, Bool, true, false, List, [], ◌∷◌, ◌++◌, length, count_by, slice_index_or, if◌then◌else◌}
+use Rattle.std.specs.Prelude.{◌+◌, ◌-◌, ◌==◌, ◌&&◌, nat_le, Bool, true, false, List, [], ◌∷◌, ◌++◌, length, count_by, slice_index_or, if◌then◌else◌}
 use Rattle.store_traits.specs.declared.ids.CallId.{CallId}
 use Rattle.store_traits.specs.declared.ids.ClientId.{ClientId}
 use Rattle.store_traits.specs.declared.ids.NodeId.{NodeId}

@@ -1,5 +1,5 @@
 -- The sessions of a transcript, as they follow one another over stops of the machine.
-use Rattle.std.specs.Prelude.{◌≡◌, ℕ, ◌-◌, ◌<◌, min, nat_le, Bool, true, false, List, [], ◌∷◌, ◌++◌, length, slice_index_or, map, Option, Some, None, unwrap_or, if◌then◌else◌}
+use Rattle.std.specs.Prelude.{◌≡◌, ℕ, ◌-◌, min, true, List, [], ◌∷◌, ◌++◌, length, slice_index_or, map, Option, Some, None, unwrap_or, if◌then◌else◌}
 use Rattle.std.specs.List.{enumerate_from}
 use Rattle.store_traits.specs.declared.ids.NodeId.{NodeId}
 use Rattle.folder_disk.specs.MainRead.{main_of}

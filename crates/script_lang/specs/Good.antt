@@ -1,8 +1,7 @@
 -- When a transcript tells the truth of its script: nine rules, which know lists and folds alone.
-use Rattle.std.specs.Prelude.{◌≡◌, ◌<◌, ◌≤◌, ℕ, nat_le, Bool, false, List, [], length, Option, Some, None, if◌then◌else◌}
+use Rattle.std.specs.Prelude.{◌≡◌, ◌≤◌, ℕ, nat_le, false, List, [], length, Option, Some, None, if◌then◌else◌}
 use Rattle.std.specs.List.{list_any}
 use Rattle.hist_journal.specs.declared.device.Device.TheVariants.{Folder, Legacy}
-use Rattle.prefs_text.specs.declared.names.Names.{Names}
 use Rattle.shelf.specs.Entries.{is_death}
 use Rattle.shelf.specs.Images.{main_at}
 use Rattle.script_lang.specs.declared.file_seen.FileSeen.{FileSeen}

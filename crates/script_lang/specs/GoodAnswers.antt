@@ -1,10 +1,11 @@
 -- Which calls a transcript answers, in which order, and whose entries it has.
-use Rattle.std.specs.Prelude.{◌≡◌, ◌⊎◌, ◌<◌, ℕ, ◌==◌, nat_lt, Bool, true, false, ◌||◌, not, List, map, length, Contains, IfSome, is_some}
+use Rattle.std.specs.Prelude.{◌≡◌, ◌⊎◌, ◌<◌, ℕ, ◌==◌, nat_lt, Bool, true, false, ◌||◌, List, map, length, Contains, IfSome, is_some}
 use Rattle.std.specs.Option.{MatchOption}
 use Rattle.std.specs.List.{filter, list_any}
 use Rattle.store_traits.specs.declared.ids.CallId.{CallId}
 use Rattle.hist_journal.specs.Kinds.{is_call}
 use Rattle.prefs_text.specs.declared.seen.AnswerLineSeen.{AnswerLineSeen}
+use Rattle.prefs_text.specs.Callers.{HasCaller}
 use Rattle.script_lang.specs.declared.run_line.Act.{Act}
 use Rattle.script_lang.specs.declared.script.Script.{Script}
 use Rattle.script_lang.specs.AnswerForms.{answers, answers_update, is_cut}
@@ -12,9 +13,10 @@ use Rattle.script_lang.specs.Asked.{Asked, home_of, is_actor}
 use Rattle.script_lang.specs.Chronicle.{Chapter}
 use Rattle.script_lang.specs.Each.{Each}
 
--- the call has the node of its client, or of its actor
-abbrev pub IsHome : Script → CallId → Type 0
-IsHome script call = call.node ≡ home_of script call.client
+-- the call is of a client or an actor of the script, and has its node
+pub record IsHome (script : Script) (call : CallId) : Type 0 where
+  pub known : HasCaller script.names call.client
+  pub home : call.node ≡ home_of script call.client
 
 -- exactly an actor's answer has a poster, which is no actor
 pub record IsTold (script : Script) (line : AnswerLineSeen) : Type 0 where

@@ -1,5 +1,5 @@
 -- Why calls are answered by an error, and whose edits stand in a history.
-use Rattle.std.specs.Prelude.{◌≡◌, ◌≤◌, ℕ, ◌==◌, ◌&&◌, nat_lt, Bool, true, false, List, ◌++◌, Contains, count_by, IfSome}
+use Rattle.std.specs.Prelude.{◌≡◌, ◌≤◌, ◌==◌, ◌&&◌, nat_lt, Bool, true, false, List, ◌++◌, Contains, count_by, IfSome}
 use Rattle.std.specs.List.{list_any}
 use Rattle.std.specs.Option.{MatchOption}
 use Rattle.store_traits.specs.declared.ids.CallId.{CallId}

@@ -1,5 +1,5 @@
 -- That nodes die and devices fail only as it was planned.
-use Rattle.std.specs.Prelude.{◌≡◌, ◌≤◌, ◌⊎◌, ℕ, ◌&&◌, ◌||◌, Bool, true, false, List, [], ◌∷◌, length, count_by, Contains, Option, None, if◌then◌else◌}
+use Rattle.std.specs.Prelude.{◌≡◌, ◌≤◌, ℕ, ◌&&◌, Bool, true, false, List, [], ◌∷◌, length, count_by, Contains, None, if◌then◌else◌}
 use Rattle.std.specs.List.{list_any}
 use Rattle.store_traits.specs.declared.ids.CallId.{CallId}
 use Rattle.store_traits.specs.declared.step.Step.{Step}
@@ -8,14 +8,13 @@ use Rattle.hist_journal.specs.declared.device.Device.TheVariants.{Folder, Legacy
 use Rattle.hist_journal.specs.declared.seen.KindSeen.TheVariants.{Edit}
 use Rattle.hist_journal.specs.Kinds.{is_call, is_raise}
 use Rattle.prefs_text.specs.EntryText.{PrefEntry, PrefKind}
-use Rattle.prefs_text.specs.declared.seen.AnswerLineSeen.{AnswerLineSeen}
 use Rattle.prefs_text.specs.declared.seen.AnswerSeen.{AnswerSeen}
 use Rattle.prefs_text.specs.declared.seen.AnswerSeen.TheVariants.{Updated}
 use Rattle.shelf.specs.declared.store.PlannedDeath.{PlannedDeath}
 use Rattle.shelf.specs.Entries.{is_death, is_own}
 use Rattle.shelf.specs.Places.{is_fault_of}
 use Rattle.shelf.specs.WritingSteps.{is_writing}
-use Rattle.script_lang.specs.Chronicle.{Beginning, Chapter, count_after}
+use Rattle.script_lang.specs.Chronicle.{Chapter}
 use Rattle.script_lang.specs.Each.{Each}
 
 -- whether the last entry of this call, or what is said of none, is a Raise

@@ -1,5 +1,5 @@
 -- Which updates are acknowledged, and which restarts are done.
-use Rattle.std.specs.Prelude.{◌≡◌, ◌+◌, ℕ, Bool, true, false, List, Contains}
+use Rattle.std.specs.Prelude.{◌≡◌, ℕ, Bool, true, false, List, Contains}
 use Rattle.std.specs.List.{list_any}
 use Rattle.std.specs.Option.{MatchOption}
 use Rattle.store_traits.specs.declared.ids.CallId.{CallId}
@@ -15,7 +15,6 @@ use Rattle.shelf.specs.Acknowledged.{IsUpdated}
 use Rattle.shelf.specs.Entries.{is_own}
 use Rattle.shelf.specs.Places.{StandsAt}
 use Rattle.script_lang.specs.declared.run_line.Act.TheVariants as act
-use Rattle.script_lang.specs.Asked.{Asked}
 use Rattle.script_lang.specs.Chronicle.{Chapter}
 use Rattle.script_lang.specs.Each.{Each}
 

@@ -1,5 +1,5 @@
 -- Which editions the answers of a session show to their clients.
-use Rattle.std.specs.Prelude.{ℕ, ◌==◌, ◌-◌, ◌&&◌, nat_le, max, List, [], ◌∷◌, take, length, Option, Some, None, unwrap_or, if◌then◌else◌}
+use Rattle.std.specs.Prelude.{ℕ, ◌==◌, ◌&&◌, nat_le, max, List, [], ◌∷◌, take, length, Option, Some, None, unwrap_or, if◌then◌else◌}
 use Rattle.store_traits.specs.declared.ids.ClientId.{ClientId}
 use Rattle.prefs_text.specs.EntryText.{PrefEntry}
 use Rattle.prefs_text.specs.declared.seen.AnswerLineSeen.{AnswerLineSeen}

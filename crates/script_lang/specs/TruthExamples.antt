@@ -1,10 +1,9 @@
 -- Scripts with transcripts that tell the truth of them, and transcripts that do not.
-use Rattle.std.specs.Prelude.{◌≡◌, ℕ, pos, List, [], ◌∷◌, ◌++◌, codes, Some, None, false}
+use Rattle.std.specs.Prelude.{◌≡◌, ℕ, pos, List, [], ◌∷◌, ◌++◌, codes, None, false}
 use Rattle.std.specs.List.{flat_map}
 use Rattle.store_traits.specs.declared.ids.CallId.{CallId}
 use Rattle.folder_disk.specs.declared.main_read.MainRead.{MainRead}
 use Rattle.folder_disk.specs.declared.main_read.MainRead.TheVariants as main
-use Rattle.hist_journal.specs.declared.seen.BaseSeen.{BaseSeen}
 use Rattle.hist_journal.specs.declared.seen.BaseSeen.TheVariants.{Held}
 use Rattle.hist_journal.specs.declared.seen.KindSeen.TheVariants.{Raise, Edit, Same, Synced, Inited}
 use Rattle.prefs_model.specs.declared.pref_pair.PrefPair.{PrefPair}
@@ -21,7 +20,6 @@ use Rattle.prefs_text.specs.declared.seen.AnswerSeen.TheVariants as answer
 use Rattle.prefs_text.specs.declared.seen.AnswerSeen.TheVariants.{Updated, Refused, StorageFault, Cut}
 use Rattle.prefs_text.specs.EntryText.{PrefEntry, PrefKind}
 use Rattle.shelf.specs.World.{rules_of}
-use Rattle.script_lang.specs.declared.file_seen.FileSeen.{FileSeen}
 use Rattle.script_lang.specs.declared.file_seen.FileSeen.TheVariants.{Absent, Bytes}
 use Rattle.script_lang.specs.declared.run_line.Act.TheVariants.{Update, Read, Go}
 use Rattle.script_lang.specs.declared.run_line.RunLine.{RunLine}
