@@ -21,7 +21,7 @@ use Rattle.script_lang.specs.Shown.{shown_to}
 use Rattle.script_lang.specs.GoodUpdates.{Acknowledges}
 use Rattle.script_lang.specs.TruthExamples.{a, answered, basis, entry, holds, set, told, equal_value, equal_value_plan, equal_value_told}
 use Rattle.script_lang.proofs.EachLemmas.{each_walked}
-use Rattle.script_lang.proofs.OneSession.{good_of_one, legal_walked, only}
+use Rattle.script_lang.proofs.GoodChapters.{good_of_one, legal_walked, only}
 
 abbrev key : List ℕ
 key = codes "k"
@@ -99,7 +99,6 @@ equal_value_good =
       fresh = each_walked _ equal_value_told.answers (record { late = omega arith; flow = tt }, tt);
       causes = causes;
       jobs = record { jobs = each_walked _ equal_value_told.answers (tt, tt); all = λ stop. each_walked _ equal_value_told.answers (λ is. absurd (cc), tt) };
-      numbers = numbers;
       plans =
           record {
             deaths = record { deaths = each_walked _ equal_value_told.entries (λ is. never is, (λ is. never is, (λ is. never is, tt))); spared = each_walked _ equal_value_told.answers (record { passed = refl; written = λ is. refl }, tt) };
@@ -107,3 +106,4 @@ equal_value_good =
           };
       file = refl;
     })
+    numbers

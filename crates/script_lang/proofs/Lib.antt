@@ -1,9 +1,11 @@
+pub mod DeathAndStopTold
 pub mod Decided
 pub mod EachLemmas
 pub mod EqualValueTold
 pub mod ExampleMaps
 pub mod FileLemmas
 pub mod GatheringLemmas
+pub mod GoodChapters
 pub mod GreatestTold
 pub mod GrowthLemmas
 pub mod KeepsLemmas
@@ -15,7 +17,6 @@ pub mod NameRows
 pub mod OneFile
 pub mod OneMeaning
 pub mod OneRow
-pub mod OneSession
 pub mod ReadLines
 pub mod ReadSoFar
 pub mod RowFaults
@@ -25,5 +26,6 @@ pub mod SessionLemmas
 pub mod StartRows
 pub mod TestLemmas
 pub mod TwoNodesTold
+pub mod TwoPostsTold
 pub mod UntrueExamples
 pub mod WordLemmas

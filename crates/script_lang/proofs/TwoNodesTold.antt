@@ -21,7 +21,7 @@ use Rattle.script_lang.specs.Shown.{shown_to}
 use Rattle.script_lang.specs.GoodUpdates.{Acknowledges}
 use Rattle.script_lang.specs.TruthExamples.{a, add, answered, b, basis, entry, holds, told, two_nodes, two_nodes_plan, two_nodes_told, update}
 use Rattle.script_lang.proofs.EachLemmas.{each_walked}
-use Rattle.script_lang.proofs.OneSession.{good_of_one, legal_walked, only}
+use Rattle.script_lang.proofs.GoodChapters.{good_of_one, legal_walked, only}
 use Rattle.script_lang.proofs.ExampleMaps.{other_number}
 
 abbrev x : List ℕ
@@ -226,7 +226,6 @@ two_nodes_good =
       fresh = each_walked _ two_nodes_told.answers (record { late = omega arith; flow = tt }, (record { late = omega arith; flow = tt }, tt));
       causes = two_nodes_causes;
       jobs = record { jobs = each_walked _ two_nodes_told.answers (tt, (tt, tt)); all = λ stop. each_walked _ two_nodes_told.answers (λ is. absurd (cc), (λ is. absurd (cc), tt)) };
-      numbers = two_nodes_numbers;
       plans =
           record {
             deaths =
@@ -238,3 +237,4 @@ two_nodes_good =
           };
       file = refl;
     })
+    two_nodes_numbers

@@ -1,5 +1,6 @@
 -- The transcripts of the examples that do not tell the truth: each breaks a rule.
-use Rattle.std.proofs.Common.{◌≡◌, ◌∙◌, ◌+◌, ◌≤◌, ◌⊎◌, inl, inr, ℕ, zero, suc, true, false, List, [], ◌∷◌, ◌++◌, codes, Contains, refl, sym, ap, arith, append_assoc}
+use Rattle.std.proofs.Common.{◌≡◌, ◌∙◌, ◌+◌, ◌<◌, ◌≤◌, ◌⊎◌, inl, inr, ℕ, zero, suc, true, false, List, [], ◌∷◌, ◌++◌, codes, Contains, Option, Some, None, refl, sym, ap, arith, append_assoc}
+use Rattle.hist_journal.specs.declared.seen.BaseSeen.TheVariants.{Held}
 use Rattle.hist_journal.specs.Folds.{applied_or, edited, edition_of, main_of, text_or, value_after, value_of}
 use Rattle.hist_journal.proofs.FoldLemmas.{edition_of-append}
 use Rattle.prefs_edit.specs.declared.edit_step.EditStep.{EditStep}
@@ -9,9 +10,10 @@ use Rattle.prefs_edit.specs.Step.{after_step}
 use Rattle.prefs_text.specs.EntryText.{PrefEntry}
 use Rattle.shelf.specs.Acknowledged.{Carries, IsUpdated}
 use Rattle.shelf.specs.Entries.{is_own, is_update}
-use Rattle.shelf.specs.Images.{is_synced}
+use Rattle.shelf.specs.Images.{changed_mains, images, is_synced, kept_front, unkept}
 use Rattle.shelf.specs.Places.{is_fault_of}
 use Rattle.hist_journal.specs.declared.device.Device.TheVariants.{Folder}
+use Rattle.hist_journal.specs.declared.seen.KindSeen.TheVariants.{Death, Inited}
 use Rattle.prefs_text.specs.declared.seen.AnswerSeen.TheVariants as answer
 use Rattle.prefs_text.specs.declared.seen.AnswerSeen.TheVariants.{Updated}
 use Rattle.shelf.proofs.Bools.{never}
@@ -21,17 +23,18 @@ use Rattle.prefs_text.specs.declared.seen.AnswerLineSeen.{AnswerLineSeen}
 use Rattle.script_lang.specs.declared.run_line.Act.{Act}
 use Rattle.script_lang.specs.declared.run_line.Act.TheVariants.{Update}
 use Rattle.script_lang.specs.Asked.{Asked, asked_by}
-use Rattle.script_lang.specs.Chronicle.{Chapter}
-use Rattle.script_lang.specs.Good.{Good, KeepsRules, Scripted}
+use Rattle.script_lang.specs.Chronicle.{Chapter, chapter_of, chronicle, first_beginning, next_beginning}
+use Rattle.script_lang.specs.declared.file_seen.FileSeen.TheVariants.{Absent}
+use Rattle.script_lang.specs.Good.{Good, KeepsRules, Scripted, chapters_of}
 use Rattle.script_lang.specs.GoodAnswers.{IsAsked}
 use Rattle.script_lang.specs.GoodCauses.{HasCauseBy}
 use Rattle.script_lang.specs.GoodUpdates.{IsAcknowledged}
 use Rattle.script_lang.specs.Shown.{shown_to}
 use Rattle.script_lang.specs.TranscriptView.{SessionSeen}
 use Rattle.script_lang.specs.TruthExamples as example
-use Rattle.script_lang.specs.TruthExamples.{a, add, answered, b, basis, entry, holds, number_of, set, told, two_nodes, two_nodes_plan, two_sets, two_sets_plan, update, update_then_read, update_then_read_plan}
-use Rattle.script_lang.proofs.EachLemmas.{each_walked}
-use Rattle.script_lang.proofs.OneSession.{only, rules_of_one}
+use Rattle.script_lang.specs.TruthExamples.{a, actor, add, answered, b, basis, death_and_stop, death_and_stop_plan, death_told, did, encoded, entry, holds, number_of, read_plan, read_told, set, told, two_nodes, two_nodes_plan, two_posts, two_posts_plan, two_sets, two_sets_plan, update, update_then_read, update_then_read_plan}
+use Rattle.script_lang.proofs.EachLemmas.{Walked, each_walked}
+use Rattle.script_lang.proofs.GoodChapters.{only, rules_of_chapters, rules_of_one}
 
 -- what is told of two nodes, in their one session
 module _ (session : SessionSeen) where
@@ -172,3 +175,78 @@ no-edits_exchanged g =
           )
       | inr is ↦ absurd (no_caller_is_both (sym (ap (λ (asked : Asked). asked.call) is)))
     ]
+
+-- what differs from each element is none of them
+not_among : {X : Type 0} (before xs : List X) (z : X) → Walked (λ (earlier : List X) x. x ≡ z → ⊥) before xs → Contains xs z → ⊥
+not_among before [] z differ (k, low, is) = absurd (omega (arith, low))
+not_among before (x ∷ xs) z differ (zero, low, is) = differ.0 is
+not_among before (x ∷ xs) z differ (suc k, low, is) = not_among (before ++ x ∷ []) xs z differ.1 (k, omega (arith, low), is)
+
+abbrev poster_number : Option CallId → ℕ
+poster_number None = 0
+poster_number (Some call) = call.number
+
+poster_of : AnswerLineSeen → ℕ
+poster_of line = poster_number line.poster
+
+-- what is told of two posts, in their one session
+module _ (session : SessionSeen) where
+  abbrev posts : Chapter
+  posts = only basis two_posts two_posts_plan session
+
+  posts_rules : Good basis two_posts (told session) → KeepsRules basis Scripted two_posts (told session) (posts ∷ [])
+  posts_rules g = rules_of_one basis two_posts two_posts_plan session (told session) refl refl refl g
+
+pub no-job_dropped : Good basis two_posts (told example.job_dropped) → ⊥
+unfolding poster_of
+no-job_dropped g =
+    let done = ((posts_rules example.job_dropped g).jobs.sessions [] (posts example.job_dropped) [] refl).all refl
+    (answered (a 1) answer.Posted ∷ []) (answered (a 2) answer.Posted) (did (actor 1) (a 1) (Updated 1) ∷ []) refl refl
+    in
+    let own : poster_of done.line ≡ 2 = ap poster_number done.own in
+    not_among
+    []
+    example.job_dropped.answers
+    done.line (
+      λ same. let no : 0 ≡ 2 = ap poster_of same ∙ own in absurd (omega (arith, no)),
+      (
+        λ same. let no : 0 ≡ 2 = ap poster_of same ∙ own in absurd (omega (arith, no)),
+        (λ same. let no : 1 ≡ 2 = ap poster_of same ∙ own in absurd (omega (arith, no)), tt),
+      ),
+    )
+    done.answered
+
+pub no-jobs_exchanged : Good basis two_posts (told example.jobs_exchanged) → ⊥
+no-jobs_exchanged g =
+    let first : List AnswerLineSeen = answered (a 1) answer.Posted ∷ answered (a 2) answer.Posted ∷ [] in
+    let job = ((posts_rules example.jobs_exchanged g).jobs.sessions [] (posts example.jobs_exchanged) [] refl).jobs (first ++ did (actor 1) (a 2) (Updated 1) ∷ []) (did (actor 2) (a 1) (Updated 2)) [] refl in
+    let low : 2 < 1 = job.in_order first (did (actor 1) (a 2) (Updated 1)) [] refl refl in
+    absurd (omega (arith, low))
+
+pub no-death_unplanned : Good basis two_nodes (told example.death_unplanned) → ⊥
+no-death_unplanned g =
+    let rest = update (b 1) (add (codes "x")) in
+    let died = ((rules example.death_unplanned g).plans [] (here example.death_unplanned) [] refl).deaths.deaths (entry (a 1) (Inited (a 1).node) ∷ []) (entry (a 1) (Death (a 1).node)) rest refl refl in
+    let some : died.planned.0 < 0 = died.planned.1 in
+    absurd (omega (arith, some))
+
+abbrev first_session : Chapter
+first_session = chapter_of basis death_and_stop (first_beginning death_and_stop) [] death_and_stop_plan death_told
+
+abbrev undone : SessionSeen
+undone = record read_told { base = Held []; answers = answered (b 2) (answer.Read 0 []) ∷ []; file = Absent }
+
+abbrev second_session : Chapter
+second_session = chapter_of basis death_and_stop (next_beginning basis first_session) death_and_stop_plan.lines read_plan undone
+
+undone_chapters : chapters_of basis Scripted death_and_stop example.stop_undid ≡ first_session ∷ second_session ∷ []
+unfolding chronicle
+undone_chapters = refl
+
+pub no-stop_undid : Good basis death_and_stop example.stop_undid → ⊥
+unfolding main_of text_or edition_of value_of value_after edited applied_or after_steps after_step images kept_front unkept changed_mains
+no-stop_undid g =
+    let rules = rules_of_chapters basis death_and_stop example.stop_undid (first_session ∷ second_session ∷ []) undone_chapters g in
+    let base = (rules.chronicle.lawful (first_session ∷ []) second_session [] refl).base in
+    let empty : encoded (holds (codes "k") 1) ≡ [] = base.1 in
+    cc

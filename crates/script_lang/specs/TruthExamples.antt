@@ -1,11 +1,12 @@
 -- Scripts with transcripts that tell the truth of them, and transcripts that do not.
-use Rattle.std.specs.Prelude.{◌≡◌, ℕ, pos, List, [], ◌∷◌, ◌++◌, codes, None, false}
+use Rattle.std.specs.Prelude.{◌≡◌, ℕ, pos, List, [], ◌∷◌, ◌++◌, codes, None, Some, false}
 use Rattle.std.specs.List.{flat_map}
 use Rattle.store_traits.specs.declared.ids.CallId.{CallId}
+use Rattle.store_traits.specs.declared.step.Step.TheVariants.{U8}
 use Rattle.folder_disk.specs.declared.main_read.MainRead.{MainRead}
 use Rattle.folder_disk.specs.declared.main_read.MainRead.TheVariants as main
 use Rattle.hist_journal.specs.declared.seen.BaseSeen.TheVariants.{Held}
-use Rattle.hist_journal.specs.declared.seen.KindSeen.TheVariants.{Raise, Edit, Same, Synced, Inited}
+use Rattle.hist_journal.specs.declared.seen.KindSeen.TheVariants.{Raise, Edit, Same, Synced, Inited, Death}
 use Rattle.prefs_model.specs.declared.pref_pair.PrefPair.{PrefPair}
 use Rattle.prefs_model.specs.declared.pref_value.PrefValue.{PrefValue}
 use Rattle.prefs_model.specs.declared.pref_value.PrefValue.TheVariants.{Int}
@@ -17,11 +18,11 @@ use Rattle.prefs_text.specs.declared.names.Names.{Names}
 use Rattle.prefs_text.specs.declared.seen.AnswerLineSeen.{AnswerLineSeen}
 use Rattle.prefs_text.specs.declared.seen.AnswerSeen.{AnswerSeen}
 use Rattle.prefs_text.specs.declared.seen.AnswerSeen.TheVariants as answer
-use Rattle.prefs_text.specs.declared.seen.AnswerSeen.TheVariants.{Updated, Refused, StorageFault, Cut}
+use Rattle.prefs_text.specs.declared.seen.AnswerSeen.TheVariants.{Updated, Refused, StorageFault, Died, Posted, Cut}
 use Rattle.prefs_text.specs.EntryText.{PrefEntry, PrefKind}
 use Rattle.shelf.specs.World.{rules_of}
 use Rattle.script_lang.specs.declared.file_seen.FileSeen.TheVariants.{Absent, Bytes}
-use Rattle.script_lang.specs.declared.run_line.Act.TheVariants.{Update, Read, Go}
+use Rattle.script_lang.specs.declared.run_line.Act.TheVariants.{Update, Read, Post, Go}
 use Rattle.script_lang.specs.declared.run_line.RunLine.{RunLine}
 use Rattle.script_lang.specs.declared.script.Script.{Script}
 use Rattle.script_lang.specs.declared.session_plan.SessionPlan.{SessionPlan}
@@ -99,6 +100,107 @@ two_nodes_told =
       answers = answered (a 1) (Updated 1) ∷ answered (b 1) (Updated 2) ∷ [];
       entries = update (a 1) (add (codes "x")) ++ update (b 1) (add (codes "x"));
       file = Bytes (encoded (holds (codes "x") 2));
+    }
+
+-- the first node dies behind its rename, the second sets the same number, and the machine stops
+abbrev pub death_and_stop_plan : SessionPlan
+death_and_stop_plan =
+    record {
+      folder_faults = [];
+      fuse = None;
+      deaths = record { call = a 1; step = U8 } ∷ [];
+      lines = asks (a 1) (set (codes "k") 1) ∷ goes (a 1) 12 ∷ asks (b 1) (set (codes "k") 1) ∷ goes (b 1) 9 ∷ [];
+      stop = Some 0;
+    }
+
+-- behind the stop the second node reads
+abbrev pub read_plan : SessionPlan
+read_plan = plan (record { client = (b 2).client; act = Read } ∷ [])
+
+abbrev pub death_and_stop : Script
+death_and_stop = record (script main.Absent death_and_stop_plan) { sessions = death_and_stop_plan ∷ read_plan ∷ [] }
+
+abbrev pub death_told : SessionSeen
+death_told =
+    record {
+      base = Held [];
+      answers = answered (a 1) (Died 4) ∷ answered (b 1) (Updated 1) ∷ [];
+      entries =
+          entry (a 1) (Inited (a 1).node)
+          ∷ entry (a 1) Raise
+          ∷ entry (a 1) (Edit (set (codes "k") 1))
+          ∷ entry (a 1) (Death (a 1).node)
+          ∷ entry (b 1) (Inited (b 1).node)
+          ∷ entry (b 1) (Same (set (codes "k") 1))
+          ∷ entry (b 1) Synced
+          ∷ [];
+      file = Bytes (encoded (holds (codes "k") 1));
+    }
+
+abbrev pub read_told : SessionSeen
+read_told =
+    record {
+      base = Held (holds (codes "k") 1);
+      answers = answered (b 2) (answer.Read 0 (holds (codes "k") 1)) ∷ [];
+      entries = entry (b 2) (Inited (b 2).node) ∷ [];
+      file = Bytes (encoded (holds (codes "k") 1));
+    }
+
+abbrev pub death_and_stop_told : Transcript
+death_and_stop_told = record { names = names; sessions = death_told ∷ read_told ∷ [] }
+
+-- the actor of the first node, whose number is behind those of the two clients
+abbrev pub actor : ℕ → CallId
+actor number = record { node = record { 0 = 0 }; client = record { 0 = 2 }; number = number }
+
+abbrev pub did : CallId → CallId → AnswerSeen → AnswerLineSeen
+did call poster answer = record { call = call; poster = Some poster; answer = answer }
+
+-- a client posts two edits to the actor of its node
+abbrev pub two_posts_plan : SessionPlan
+two_posts_plan = plan (record { client = (a 1).client; act = Post (add (codes "x")) } ∷ record { client = (a 2).client; act = Post (set (codes "x") 5) } ∷ [])
+
+abbrev pub two_posts : Script
+two_posts = script main.Absent two_posts_plan
+
+abbrev pub two_posts_told : SessionSeen
+two_posts_told =
+    record {
+      base = Held [];
+      answers = answered (a 1) Posted ∷ answered (a 2) Posted ∷ did (actor 1) (a 1) (Updated 1) ∷ did (actor 2) (a 2) (Updated 2) ∷ [];
+      entries = update (actor 1) (add (codes "x")) ++ entry (actor 2) Raise ∷ entry (actor 2) (Edit (set (codes "x") 5)) ∷ entry (actor 2) Synced ∷ [];
+      file = Bytes (encoded (holds (codes "x") 5));
+    }
+
+-- the second job is dropped
+abbrev pub job_dropped : SessionSeen
+job_dropped =
+    record two_posts_told {
+      answers = answered (a 1) Posted ∷ answered (a 2) Posted ∷ did (actor 1) (a 1) (Updated 1) ∷ [];
+      entries = update (actor 1) (add (codes "x"));
+      file = Bytes (encoded (holds (codes "x") 1));
+    }
+
+-- the second job is done first
+abbrev pub jobs_exchanged : SessionSeen
+jobs_exchanged =
+    record two_posts_told {
+      answers = answered (a 1) Posted ∷ answered (a 2) Posted ∷ did (actor 1) (a 2) (Updated 1) ∷ did (actor 2) (a 1) (Updated 2) ∷ [];
+      entries = update (actor 1) (set (codes "x") 5) ++ entry (actor 2) Raise ∷ entry (actor 2) (Edit (add (codes "x"))) ∷ entry (actor 2) Synced ∷ [];
+      file = Bytes (encoded (holds (codes "x") 6));
+    }
+
+-- the stop is said to have undone what was synced
+abbrev pub stop_undid : Transcript
+stop_undid = record { names = names; sessions = death_told ∷ record read_told { base = Held []; answers = answered (b 2) (answer.Read 0 []) ∷ []; file = Absent } ∷ [] }
+
+-- a node died, and no line plans it
+abbrev pub death_unplanned : SessionSeen
+death_unplanned =
+    record two_nodes_told {
+      answers = answered (a 1) (Died 2) ∷ answered (b 1) (Updated 1) ∷ [];
+      entries = entry (a 1) (Inited (a 1).node) ∷ entry (a 1) (Death (a 1).node) ∷ update (b 1) (add (codes "x"));
+      file = Bytes (encoded (holds (codes "x") 1));
     }
 
 -- the second answer is missing

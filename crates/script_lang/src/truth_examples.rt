@@ -7,9 +7,11 @@ pub fn transcripts_are_good()
     ensures two_nodes { Good example.basis example.two_nodes (example.told example.two_nodes_told) }
     ensures equal_value { Good example.basis example.equal_value (example.told example.equal_value_told) }
     ensures greatest { Good example.basis example.greatest (example.told example.greatest_told) }
+    ensures death_and_stop { Good example.basis example.death_and_stop example.death_and_stop_told }
+    ensures two_posts { Good example.basis example.two_posts (example.told example.two_posts_told) }
 {}
 
-/// None of these does. Each but the last two is the transcript of `two_nodes` with one thing changed.
+/// None of these does: each has one thing wrong.
 pub fn transcripts_are_no_good()
     ensures answer_missing { Good example.basis example.two_nodes (example.told example.answer_missing) → ⊥ }
     ensures edition_too_high { Good example.basis example.two_nodes (example.told example.edition_too_high) → ⊥ }
@@ -21,4 +23,8 @@ pub fn transcripts_are_no_good()
     ensures cut_without_stop { Good example.basis example.two_nodes (example.told example.cut_without_stop) → ⊥ }
     ensures edits_exchanged { Good example.basis example.two_sets (example.told example.edits_exchanged) → ⊥ }
     ensures read_too_early { Good example.basis example.update_then_read (example.told example.read_too_early) → ⊥ }
+    ensures job_dropped { Good example.basis example.two_posts (example.told example.job_dropped) → ⊥ }
+    ensures jobs_exchanged { Good example.basis example.two_posts (example.told example.jobs_exchanged) → ⊥ }
+    ensures stop_undid { Good example.basis example.death_and_stop example.stop_undid → ⊥ }
+    ensures death_unplanned { Good example.basis example.two_nodes (example.told example.death_unplanned) → ⊥ }
 {}

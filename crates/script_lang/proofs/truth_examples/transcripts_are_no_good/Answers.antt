@@ -14,4 +14,8 @@ returns c =
       cut_without_stop = shown.no-cut_without_stop;
       edits_exchanged = shown.no-edits_exchanged;
       read_too_early = shown.no-read_too_early;
+      job_dropped = shown.no-job_dropped;
+      jobs_exchanged = shown.no-jobs_exchanged;
+      stop_undid = shown.no-stop_undid;
+      death_unplanned = shown.no-death_unplanned;
     }
