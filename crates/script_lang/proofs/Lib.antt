@@ -4,6 +4,7 @@ pub mod EachLemmas
 pub mod EqualValueTold
 pub mod ExampleMaps
 pub mod FileLemmas
+pub mod FlowsTold
 pub mod GatheringLemmas
 pub mod GoodChapters
 pub mod GreatestTold
@@ -19,11 +20,13 @@ pub mod OneMeaning
 pub mod OneRow
 pub mod ReadLines
 pub mod ReadSoFar
+pub mod RestartTold
 pub mod RowFaults
 pub mod RunRows
 pub mod ScriptLaws
 pub mod SessionLemmas
 pub mod StartRows
+pub mod SyncFailedTold
 pub mod TestLemmas
 pub mod TwoNodesTold
 pub mod TwoPostsTold

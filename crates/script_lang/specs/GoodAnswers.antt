@@ -18,7 +18,7 @@ pub record IsHome (script : Script) (call : CallId) : Type 0 where
   pub known : HasCaller script.names call.client
   pub home : call.node ≡ home_of script call.client
 
--- exactly an actor's answer has a poster, which is no actor
+-- exactly an actor's answer has a poster
 pub record IsTold (script : Script) (line : AnswerLineSeen) : Type 0 where
   pub home : IsHome script line.call
   pub poster : is_some line.poster ≡ is_actor script line.call.client

@@ -2,11 +2,14 @@
 use Rattle.std.specs.Prelude.{◌≡◌, ℕ, pos, List, [], ◌∷◌, ◌++◌, codes, None, Some, false}
 use Rattle.std.specs.List.{flat_map}
 use Rattle.store_traits.specs.declared.ids.CallId.{CallId}
-use Rattle.store_traits.specs.declared.step.Step.TheVariants.{U8}
+use Rattle.store_traits.specs.declared.step.Step.TheVariants.{U1, U8}
 use Rattle.folder_disk.specs.declared.main_read.MainRead.{MainRead}
 use Rattle.folder_disk.specs.declared.main_read.MainRead.TheVariants as main
 use Rattle.hist_journal.specs.declared.seen.BaseSeen.TheVariants.{Held}
-use Rattle.hist_journal.specs.declared.seen.KindSeen.TheVariants.{Raise, Edit, Same, Synced, Inited, Death}
+use Rattle.hist_journal.specs.declared.seen.KindSeen.TheVariants as kind
+use Rattle.hist_journal.specs.declared.seen.KindSeen.TheVariants.{Raise, Edit, Same, Synced, Inited, Fault, Death}
+use Rattle.hist_journal.specs.declared.device.Device.TheVariants.{Folder}
+use Rattle.folder_disk.specs.declared.call.FolderCall.TheVariants.{SyncFolder}
 use Rattle.prefs_model.specs.declared.pref_pair.PrefPair.{PrefPair}
 use Rattle.prefs_model.specs.declared.pref_value.PrefValue.{PrefValue}
 use Rattle.prefs_model.specs.declared.pref_value.PrefValue.TheVariants.{Int}
@@ -18,11 +21,11 @@ use Rattle.prefs_text.specs.declared.names.Names.{Names}
 use Rattle.prefs_text.specs.declared.seen.AnswerLineSeen.{AnswerLineSeen}
 use Rattle.prefs_text.specs.declared.seen.AnswerSeen.{AnswerSeen}
 use Rattle.prefs_text.specs.declared.seen.AnswerSeen.TheVariants as answer
-use Rattle.prefs_text.specs.declared.seen.AnswerSeen.TheVariants.{Updated, Refused, StorageFault, Died, Posted, Cut}
+use Rattle.prefs_text.specs.declared.seen.AnswerSeen.TheVariants.{Updated, Unchanged, Refused, StorageFault, NotDurable, Died, Posted, Restarted, Cut}
 use Rattle.prefs_text.specs.EntryText.{PrefEntry, PrefKind}
 use Rattle.shelf.specs.World.{rules_of}
 use Rattle.script_lang.specs.declared.file_seen.FileSeen.TheVariants.{Absent, Bytes}
-use Rattle.script_lang.specs.declared.run_line.Act.TheVariants.{Update, Read, Post, Go}
+use Rattle.script_lang.specs.declared.run_line.Act.TheVariants.{Update, Read, Flow, Post, Restart, Go}
 use Rattle.script_lang.specs.declared.run_line.RunLine.{RunLine}
 use Rattle.script_lang.specs.declared.script.Script.{Script}
 use Rattle.script_lang.specs.declared.session_plan.SessionPlan.{SessionPlan}
@@ -201,6 +204,67 @@ death_unplanned =
       answers = answered (a 1) (Died 2) ∷ answered (b 1) (Updated 1) ∷ [];
       entries = entry (a 1) (Inited (a 1).node) ∷ entry (a 1) (Death (a 1).node) ∷ update (b 1) (add (codes "x"));
       file = Bytes (encoded (holds (codes "x") 1));
+    }
+
+-- the folder is not synced behind the rename, and the value stands
+abbrev pub sync_failed_plan : SessionPlan
+sync_failed_plan = record (plan (asks (a 1) (set (codes "k") 1) ∷ record { client = (a 2).client; act = Read } ∷ [])) { folder_faults = record { call = SyncFolder; number = 1 } ∷ [] }
+
+abbrev pub sync_failed : Script
+sync_failed = script main.Absent sync_failed_plan
+
+abbrev pub sync_failed_told : SessionSeen
+sync_failed_told =
+    record {
+      base = Held [];
+      answers = answered (a 1) (NotDurable 3) ∷ answered (a 2) (answer.Read 1 (holds (codes "k") 1)) ∷ [];
+      entries = entry (a 1) (Inited (a 1).node) ∷ entry (a 1) Raise ∷ entry (a 1) (Edit (set (codes "k") 1)) ∷ entry (a 1) (Fault Folder 1) ∷ [];
+      file = Bytes (encoded (holds (codes "k") 1));
+    }
+
+-- a node dies before its first update, is brought back, and updates
+abbrev pub restart_plan : SessionPlan
+restart_plan =
+    record (plan (asks (a 1) (set (codes "k") 1) ∷ record { client = (b 1).client; act = Restart (a 1).node } ∷ asks (a 2) (set (codes "k") 2) ∷ goes (a 1) 5 ∷ goes (b 1) 1 ∷ [])) {
+      deaths = record { call = a 1; step = U1 } ∷ [];
+    }
+
+abbrev pub restart : Script
+restart = script main.Absent restart_plan
+
+abbrev pub restart_told : SessionSeen
+restart_told =
+    record {
+      base = Held [];
+      answers = answered (a 1) (Died 2) ∷ answered (a 2) (Updated 1) ∷ answered (b 1) (Restarted 3) ∷ [];
+      entries =
+          entry (a 1) (Inited (a 1).node)
+          ∷ entry (a 1) (Death (a 1).node)
+          ∷ entry (b 1) (kind.Restart (a 1).node)
+          ∷ update (a 2) (set (codes "k") 2);
+      file = Bytes (encoded (holds (codes "k") 2));
+    }
+
+-- a flow gives a value once
+abbrev pub flows_plan : SessionPlan
+flows_plan =
+    plan
+    (record { client = (a 1).client; act = Flow }
+    ∷ record { client = (a 2).client; act = Flow }
+    ∷ asks (a 3) (set (codes "k") 1)
+    ∷ record { client = (a 4).client; act = Flow }
+    ∷ [])
+
+abbrev pub flows : Script
+flows = script main.Absent flows_plan
+
+abbrev pub flows_told : SessionSeen
+flows_told =
+    record {
+      base = Held [];
+      answers = answered (a 1) (answer.Flow 0 []) ∷ answered (a 2) (Unchanged 0) ∷ answered (a 3) (Updated 1) ∷ answered (a 4) (answer.Flow 1 (holds (codes "k") 1)) ∷ [];
+      entries = entry (a 1) (Inited (a 1).node) ∷ entry (a 3) Raise ∷ entry (a 3) (Edit (set (codes "k") 1)) ∷ entry (a 3) Synced ∷ [];
+      file = Bytes (encoded (holds (codes "k") 1));
     }
 
 -- the second answer is missing

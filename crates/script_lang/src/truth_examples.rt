@@ -8,6 +8,9 @@ pub fn transcripts_are_good()
     ensures equal_value { Good example.basis example.equal_value (example.told example.equal_value_told) }
     ensures greatest { Good example.basis example.greatest (example.told example.greatest_told) }
     ensures death_and_stop { Good example.basis example.death_and_stop example.death_and_stop_told }
+    ensures sync_failed { Good example.basis example.sync_failed (example.told example.sync_failed_told) }
+    ensures restart { Good example.basis example.restart (example.told example.restart_told) }
+    ensures flows { Good example.basis example.flows (example.told example.flows_told) }
     ensures two_posts { Good example.basis example.two_posts (example.told example.two_posts_told) }
 {}
 
