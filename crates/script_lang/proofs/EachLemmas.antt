@@ -1,5 +1,6 @@
 -- What holds of each element of a list, element by element.
-use Rattle.std.proofs.Common.{◌≡◌, List, [], ◌∷◌, ◌++◌, ap, append_assoc, append-nil}
+use Rattle.std.proofs.Common.{⊎_elim, ◌≡◌, List, [], ◌∷◌, ◌++◌, ap, append_assoc, append-nil}
+use Rattle.hist_journal.proofs.ClearingLemmas.{last_or_before, longer}
 use Rattle.script_lang.specs.Each.{Each}
 
 abbrev head_or : {X : Type 0} → X → List X → X
@@ -31,3 +32,17 @@ module _ {X : Type 0} (Holds : List X → X → Type 0) where
 
   pub each_walked : (list : List X) → Walked [] list → Each Holds list
   each_walked list walked before x behind is = walked_to [] list before x behind walked is
+
+  pub each_none : Each Holds []
+  each_none = each_walked [] tt
+
+  -- one more element
+  pub each_push : (list : List X) (x : X) → Each Holds list → Holds list x → Each Holds (list ++ x ∷ [])
+  each_push list x all here before y behind is =
+      ⊎_elim
+      (λ it. let at_end : before ≡ list = it.0 in let last : y ≡ x = it.1 in rw (at_end, last) here)
+      (λ it. all before y it.0 it.1)
+      (last_or_before list before behind x y is)
+
+  pub each_front : (front back : List X) → Each Holds (front ++ back) → Each Holds front
+  each_front front back all before x behind is = all before x (behind ++ back) (longer front before behind back x is)

@@ -57,7 +57,7 @@ updates = each_walked _ two_posts_told.answers (refl, (refl, ((record { edit = a
 
 causes : HasCauses basis chapter
 unfolding asked_by
-causes = record { errors = each_walked _ two_posts_told.answers (record { act = Post (add key); asked = (0, omega arith, refl); fits = tt }, (record { act = Post (set key 5); asked = (1, omega arith, refl); fits = tt }, (record { edit = add key; carried = (0, omega arith, refl); cause = tt }, (record { edit = set key 5; carried = (1, omega arith, refl); cause = tt }, tt)))); edits = each_walked _ two_posts_told.entries (λ is. never is, (λ is. never is, (λ is. record { line = did (actor 1) (a 1) (Updated 1); edit = add key; answered = (2, omega arith, refl); own = refl; may = refl; asked = (0, omega arith, refl); carried = refl }, (λ is. never is, (λ is. never is, (λ is. record { line = did (actor 2) (a 2) (Updated 2); edit = set key 5; answered = (3, omega arith, refl); own = refl; may = refl; asked = (1, omega arith, refl); carried = refl }, (λ is. never is, tt))))))) }
+causes = record { errors = each_walked _ two_posts_told.answers (record { act = Post (add key); asked = (0, omega arith, refl); fits = tt }, (record { act = Post (set key 5); asked = (1, omega arith, refl); fits = tt }, (tt, (tt, tt)))); edits = each_walked _ two_posts_told.entries (λ is. never is, (λ is. never is, (λ is. record { line = did (actor 1) (a 1) (Updated 1); edit = add key; answered = (2, omega arith, refl); own = refl; may = refl; asked = (0, omega arith, refl); carried = refl }, (λ is. never is, (λ is. never is, (λ is. record { line = did (actor 2) (a 2) (Updated 2); edit = set key 5; answered = (3, omega arith, refl); own = refl; may = refl; asked = (1, omega arith, refl); carried = refl }, (λ is. never is, tt))))))) }
 
 jobs : DoesJobs chapter
 unfolding asked_by

@@ -1,9 +1,11 @@
 -- Why calls are answered by an error, and whose edits stand in a history.
-use Rattle.std.specs.Prelude.{◌≡◌, ◌≤◌, ◌==◌, ◌&&◌, nat_lt, Bool, true, false, List, ◌++◌, Contains, count_by, IfSome}
+use Rattle.std.specs.Prelude.{◌≡◌, ◌⊎◌, ℕ, ◌≤◌, ◌==◌, ◌&&◌, nat_lt, Bool, true, false, List, ◌++◌, Contains, count_by, IfSome}
 use Rattle.std.specs.List.{list_any}
 use Rattle.std.specs.Option.{MatchOption}
 use Rattle.store_traits.specs.declared.ids.CallId.{CallId}
 use Rattle.store_traits.specs.declared.ids.NodeId.{NodeId}
+use Rattle.store_traits.specs.declared.read_error.ReadError.{ReadError}
+use Rattle.store_traits.specs.declared.update_error.UpdateError.{UpdateError}
 use Rattle.hist_journal.specs.Kinds.{is_node}
 use Rattle.hist_journal.specs.Nodes.{is_dead}
 use Rattle.prefs_edit.specs.declared.edit_step.EditStep.{EditStep}
@@ -44,12 +46,16 @@ pub record IsAlive (call : CallId) (node : NodeId) (list : List PrefEntry) : Typ
   pub earlier : list_any (is_earlier call) back ≡ false
 
 module _ (b : Basis) (c : Chapter) where
-  -- an update's error, where it carries this edit
-  abbrev pub HasUpdateCause : List AnswerLineSeen → AnswerLineSeen → List EditStep → Type 0
-  HasUpdateCause before line edit = IfSome (update_error line.answer) (λ err. HasCause b.rules c.store (shown_to line.call.client c.told.entries before) line.call edit err c.told.entries)
+  -- the edition that the client was shown before
+  abbrev pub shown_before : List AnswerLineSeen → AnswerLineSeen → ℕ
+  shown_before before line = shown_to line.call.client c.told.entries before
 
-  abbrev pub HasCauseOfRead : List AnswerLineSeen → AnswerLineSeen → Type 0
-  HasCauseOfRead before line = IfSome (read_error line.answer) (λ err. HasReadCause b.rules c.store (shown_to line.call.client c.told.entries before) line.call err c.told.entries)
+  -- an update's error, where it carries this edit
+  abbrev pub HasUpdateCause : List AnswerLineSeen → AnswerLineSeen → UpdateError → List EditStep → Type 0
+  HasUpdateCause before line err edit = HasCause b.rules c.store (shown_before before line) line.call edit err c.told.entries
+
+  abbrev pub HasCauseOfRead : List AnswerLineSeen → AnswerLineSeen → ReadError → Type 0
+  HasCauseOfRead before line err = HasReadCause b.rules c.store (shown_before before line) line.call err c.told.entries
 
   -- 16 jobs can have waited
   abbrev pub IsFullThen : AnswerLineSeen → AnswerSeen → Type 0
@@ -63,21 +69,26 @@ module _ (b : Basis) (c : Chapter) where
 
   -- by what the call asks for
   abbrev pub HasCauseBy : List AnswerLineSeen → AnswerLineSeen → Act → Type 0
-  HasCauseBy before line (act.Update edit) = HasUpdateCause before line edit
-  HasCauseBy before line act.Read = HasCauseOfRead before line
-  HasCauseBy before line act.Flow = HasCauseOfRead before line
+  HasCauseBy before line (act.Update edit) = IfSome (update_error line.answer) (λ err. HasUpdateCause before line err edit)
+  HasCauseBy before line act.Read = IfSome (read_error line.answer) (HasCauseOfRead before line)
+  HasCauseBy before line act.Flow = IfSome (read_error line.answer) (HasCauseOfRead before line)
   HasCauseBy before line (act.Post edit) = IsFullThen line line.answer
   HasCauseBy before line (act.Restart node) = HasRestartCause line.call node line.answer
   HasCauseBy before line (act.Go steps) = Unit {0}
 
-  pub record HasPostedCause (before : List AnswerLineSeen) (line : AnswerLineSeen) (poster : CallId) : Type 0 where
+  -- an actor's error has its cause by the edit that was posted
+  pub record HasPostedCause (before : List AnswerLineSeen) (line : AnswerLineSeen) (poster : CallId) (err : UpdateError) : Type 0 where
     pub edit : List EditStep
     pub carried : Contains c.asked (record { call = poster; act = act.Post edit })
-    pub cause : HasUpdateCause before line edit
+    pub cause : HasUpdateCause before line err edit
+
+  -- or one that needs no edit
+  abbrev pub HasActorCause : List AnswerLineSeen → AnswerLineSeen → CallId → Type 0
+  HasActorCause before line poster = IfSome (update_error line.answer) (λ err. HasPostedCause before line poster err ⊎ MatchOption (read_error line.answer) ⊥ (HasCauseOfRead before line))
 
   -- the error of a client's call, or of an actor's
   abbrev pub IsCaused : List AnswerLineSeen → AnswerLineSeen → Type 0
-  IsCaused before line = MatchOption line.poster (IsAsked c line.call (HasCauseBy before line)) (HasPostedCause before line)
+  IsCaused before line = MatchOption line.poster (IsAsked c line.call (HasCauseBy before line)) (HasActorCause before line)
 
   -- of these calls an Edit or a Same may stand
   abbrev pub may_stand : AnswerSeen → Bool
