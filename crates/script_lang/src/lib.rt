@@ -28,6 +28,7 @@ mod start_rows;
 #[cfg(test)]
 mod tests;
 mod transcript;
+mod truth_examples;
 mod write_text_error;
 mod writing;
 
@@ -51,5 +52,6 @@ pub use session_list::SessionList;
 pub use session_plan::SessionPlan;
 pub use start::Start;
 pub use transcript::Transcript;
+pub use truth_examples::{transcripts_are_good, transcripts_are_no_good};
 pub use write_text_error::WriteTextError;
 pub use writing::write_transcript;

@@ -12,6 +12,7 @@ use Rattle.store_traits.specs.declared.update_error.UpdateError.TheVariants as e
 use Rattle.hist_journal.specs.declared.seen.EntrySeen.{EntrySeen}
 use Rattle.hist_journal.specs.declared.seen.KindSeen.{KindSeen}
 use Rattle.hist_journal.specs.Kinds.{is_call}
+use Rattle.hist_journal.proofs.ClearingLemmas.{longer}
 use Rattle.shelf.specs.declared.store.Store.{Store}
 use Rattle.shelf.specs.Acknowledged.{IsUpdated}
 use Rattle.shelf.specs.Causes.{HasCause, HasReadCause, IsDead, IsFaulted, IsUncertain, IsUncertainSame, is_unsynced}
@@ -70,7 +71,7 @@ module _ {V T : Type 0} where
         before = at.before;
         entry = at.entry;
         behind = at.behind ++ more;
-        is = ap (λ xs. xs ++ more) at.is ∙ append_assoc at.before (at.entry ∷ at.behind) more;
+        is = longer list at.before at.behind more at.entry at.is;
         counted = at.counted;
         passed = at.passed;
       }
@@ -83,10 +84,7 @@ module _ {V T : Type 0} where
         between = it.between;
         second = it.second;
         behind = it.behind ++ more;
-        is =
-            ap (λ xs. xs ++ more) it.is
-            ∙ (append_assoc it.before (it.first ∷ (it.between ++ it.second ∷ it.behind)) more
-            ∙ ap (λ xs. it.before ++ it.first ∷ xs) (append_assoc it.between (it.second ∷ it.behind) more));
+        is = longer list it.before (it.between ++ it.second ∷ it.behind) more it.first it.is ∙ ap (λ xs. it.before ++ it.first ∷ xs) (append_assoc it.between (it.second ∷ it.behind) more);
         opens = it.opens;
         next = it.next;
         closes = it.closes;

@@ -23,4 +23,5 @@ pub mod Played
 pub mod RaiseLemmas
 pub mod ReadingLemmas
 pub mod StepLemmas
+pub mod StoreLemmas
 pub mod UnlawfulExamples

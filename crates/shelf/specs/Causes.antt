@@ -49,10 +49,10 @@ module _ {V T M : Type 0} (r : Rules V T) (s : Store V M) where
     pub refused : r.meanings.after edit old ≡ Refused code
     pub reached : edition ≡ edition_of front
 
-  -- what takes the place of an unreadable file; there is nothing
+  -- main is unreadable, and nothing takes its place
   pub record IsUnreadable : Type 0 where
     pub unreadable : s.base ≡ Corrupt
-    pub alone : s.handler ≡ None
+    pub unreplaced : s.handler ≡ None
 
   -- the length of the value's text, at most 2^64 - 1, passes the limit
   pub record IsPastLimit (v : V) (len : ℕ) : Type 0 where

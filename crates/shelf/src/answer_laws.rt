@@ -21,6 +21,16 @@ pub fn updates_stay<V, T>()
         → IsUpdated call edit edition list → IsUpdated call edit edition (list ++ more) }
 {}
 
+/// Of a store, a cause speaks of the base, the handler's value and the limits alone.
+pub fn causes_by_the_start<C: Codec, T: Transform<Value = C::Value>, M, N>()
+    ensures update { (c : C) (s : Store C.Value M) (t : Store C.Value N) → t.base ≡ s.base → t.handler ≡ s.handler → t.limits ≡ s.limits
+        → (shown : ℕ) (call : CallId) (edit : T) (err : UpdateError) (list : List (EntrySeen C.Value T)) → let r = rules_of T.after T.weight_of (C.encoded c) (C.reads c) (C.default_of c) in
+        HasCause r s shown call edit err list → HasCause r t shown call edit err list }
+    ensures read { (c : C) (s : Store C.Value M) (t : Store C.Value N) → t.base ≡ s.base → t.handler ≡ s.handler → t.limits ≡ s.limits
+        → (shown : ℕ) (call : CallId) (err : ReadError) (list : List (EntrySeen C.Value T)) → let r = rules_of T.after T.weight_of (C.encoded c) (C.reads c) (C.default_of c) in
+        HasReadCause r s shown call err list → HasReadCause r t shown call err list }
+{}
+
 /// An error keeps its cause.
 pub fn causes_stay<C: Codec, T: Transform<Value = C::Value>, M>()
     ensures update { (c : C) (s : Store C.Value M) (call : CallId) (list more : List (EntrySeen C.Value T)) → list_any (is_up_to call) more ≡ false

@@ -55,3 +55,9 @@ pub fn images_go_on<V, T, M>()
 pub fn images_hold_what_is_synced<V, T, M>()
     ensures { (m : Meanings V T) (encoded : V → List ℕ) (s : Store V M) (list : List (EntrySeen V T)) → All (IsMainSinceSynced m encoded s list) (images m encoded s list) }
 {}
+
+/// Of a store, a lawful history speaks of the base, the handler's value and the counts at the start alone.
+pub fn lawful_by_the_start<V, T, M, N>()
+    ensures { (m : Meanings V T) (s : Store V M) (t : Store V N) → t.base ≡ s.base → t.handler ≡ s.handler → t.folder.count ≡ s.folder.count → t.legacy.count ≡ s.legacy.count
+        → (list : List (EntrySeen V T)) → Legal m s list → Legal m t list }
+{}

@@ -1,0 +1,111 @@
+-- The sessions of a transcript, as they follow one another over stops of the machine.
+use Rattle.std.specs.Prelude.{◌≡◌, ℕ, ◌-◌, min, true, List, [], ◌∷◌, ◌++◌, length, slice_index_or, map, Option, Some, None, unwrap_or, if◌then◌else◌}
+use Rattle.std.specs.List.{enumerate_from}
+use Rattle.store_traits.specs.declared.ids.NodeId.{NodeId}
+use Rattle.folder_disk.specs.MainRead.{main_of}
+use Rattle.prefs_model.specs.declared.pref_pair.PrefPair.{PrefPair}
+use Rattle.prefs_edit.specs.declared.edit_step.EditStep.{EditStep}
+use Rattle.prefs_text.specs.EntryText.{PrefEntry, PrefKind}
+use Rattle.hist_journal.specs.declared.device.Device.{Device}
+use Rattle.hist_journal.specs.declared.device.Device.TheVariants.{Folder, Legacy}
+use Rattle.hist_journal.specs.declared.seen.KindSeen.TheVariants.{Fault}
+use Rattle.shelf.specs.declared.store.Store.{Store}
+use Rattle.shelf.specs.Base.{HasItsBase}
+use Rattle.shelf.specs.FaultCounts.{is_device}
+use Rattle.shelf.specs.Images.{images}
+use Rattle.shelf.specs.Legal.{Legal}
+use Rattle.shelf.specs.World.{Rules}
+use Rattle.script_lang.specs.declared.run_line.RunLine.{RunLine}
+use Rattle.script_lang.specs.declared.script.Script.{Script}
+use Rattle.script_lang.specs.declared.session_plan.SessionPlan.{SessionPlan}
+use Rattle.script_lang.specs.Asked.{Asked, asked_by}
+use Rattle.script_lang.specs.Each.{Each}
+use Rattle.script_lang.specs.TranscriptView.{SessionSeen}
+
+-- what edits and files mean, how long a file may be, and how much a history may weigh
+pub record Basis : Type 1 where
+  pub rules : Rules (List PrefPair) (List EditStep)
+  pub file_limit : ℕ
+  pub weight_limit : ℕ
+
+-- how a session begins: main, and how often each device had failed
+pub record Beginning : Type 0 where
+  pub main : Option (List ℕ)
+  pub folder : ℕ
+  pub legacy : ℕ
+
+-- a session: what the script plans for it, what the transcript tells of it, its store, and the calls of its lines
+pub record Chapter : Type 0 where
+  pub plan : SessionPlan
+  pub told : SessionSeen
+  pub store : Store (List PrefPair) (Unit {0})
+  pub asked : List Asked
+
+-- the script's file, and no fault yet
+abbrev pub first_beginning : Script → Beginning
+first_beginning script = record { main = main_of script.start.file; folder = 0; legacy = 0 }
+
+abbrev pub nodes_of : Script → List NodeId
+nodes_of script = map (λ placed. record { 0 = placed.0 }) (enumerate_from 0 script.names.nodes)
+
+-- the count that an entry tells of the device, or the count before
+abbrev pub told_count : Device → ℕ → PrefKind → ℕ
+told_count device count (Fault failed reached) = if is_device device failed then reached else count
+told_count device count other = count
+
+-- the count of the device's last Fault, or the count before
+unfoldable pub count_after : Device → ℕ → List PrefEntry → ℕ
+count_after device count [] = count
+count_after device count (e ∷ es) = count_after device (told_count device count e.kind) es
+
+-- the image with this number, counted from 0, or the last where there are fewer
+abbrev pub image : ℕ → List (Option (List ℕ)) → Option (List ℕ)
+image number all = slice_index_or all (min number (length all - 1)) None
+
+module _ (b : Basis) where
+  -- old settings and migrations join, once scripts have them
+  abbrev pub store_of : Script → Beginning → SessionPlan → SessionSeen → Store (List PrefPair) (Unit {0})
+  store_of script start plan told =
+      record {
+        base = told.base;
+        nodes = nodes_of script;
+        handler = if script.start.replace then Some [] else None;
+        migrations = [];
+        limits = record { file = b.file_limit; history = record { entries = script.start.entries; weight = b.weight_limit } };
+        deaths = plan.deaths;
+        main = start.main;
+        sections = [];
+        folder = record { count = start.folder; most = None };
+        legacy = record { count = start.legacy; most = None };
+        alone = true;
+      }
+
+  -- after a stop main is an image of the history, and devices go on counting
+  abbrev pub next_beginning : Chapter → Beginning
+  next_beginning c =
+      record {
+        main = image (unwrap_or c.plan.stop 0) (images b.rules.meanings b.rules.encoded c.store c.told.entries);
+        folder = count_after Folder c.store.folder.count c.told.entries;
+        legacy = count_after Legacy c.store.legacy.count c.told.entries;
+      }
+
+  abbrev pub chapter_of : Script → Beginning → List RunLine → SessionPlan → SessionSeen → Chapter
+  chapter_of script start before plan told = record { plan = plan; told = told; store = store_of script start plan told; asked = asked_by script before plan.lines }
+
+  -- each session of the script with what is told of it, where those lines stand before
+  unfoldable pub chronicle : Script → Beginning → List RunLine → List SessionPlan → List SessionSeen → List Chapter
+  chronicle script start before [] told = []
+  chronicle script start before (plan ∷ plans) [] = []
+  chronicle script start before (plan ∷ plans) (told ∷ rest) =
+      let c : Chapter = chapter_of script start before plan told in
+      c ∷ chronicle script (next_beginning c) (before ++ plan.lines) plans rest
+
+  -- main reads as the base that is told, and the history is lawful
+  pub record IsLawful (c : Chapter) : Type 0 where
+    pub base : HasItsBase b.rules.reads b.rules.absent c.store
+    pub history : Legal b.rules.meanings c.store c.told.entries
+
+  -- a session is told for each of the script, of which a stop ends all but the last
+  pub record IsChronicle (script : Script) (told : List SessionSeen) (chapters : List Chapter) : Type 0 where
+    pub sessions : length told ≡ length script.sessions
+    pub lawful : Each (λ before c. IsLawful c) chapters
