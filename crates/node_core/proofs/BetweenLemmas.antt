@@ -86,7 +86,7 @@ module _ {V T M : Type 0} (r : Rules V T) (s : Store V M) where
 
   module _ (c : Call V T) (last now : World V T) (k : Knows r s last c) (b : Between c last now) (alive : has_died c.id.node c.since now.history ≡ false) where
     -- where the call owns the lock, its node did not die, and nothing of what it owns was disturbed
-    owner_kept : is_holding c.at ≡ true → NoDeathOf c.id.node b.more × Undisturbed last now b.more
+    pub owner_kept : is_holding c.at ≡ true → NoDeathOf c.id.node b.more × Undisturbed last now b.more
     owner_kept is =
         let h = k.holds is in
         let began : h.begun.0 ≤ length last.history = rw h.begun.1 at k.began in

@@ -48,7 +48,7 @@ module _ {V T M : Type 0} (r : Rules V T) (s : Store V M) (edit : T) where
       → ((value : V) (e : UpdateError) → value_at r.meanings s t.world.history ≡ Held value → Then value (Ended (Err e)) → Caused t e) → Caused t e
   read_cause Then t (error.StorageFault place) it told reads early rest = folder_failed t place it.0 it.1 early
   read_cause Then t (error.FileTooLong len) it told reads early rest = too_long_from_start r.meanings.after s.base t.world.history len (reads told (TooLong len) (it.0 told))
-  read_cause Then t error.Corrupt it told reads early rest = record { unreadable = corrupt_from_start r.meanings.after s.base t.world.history (reads told Corrupt (it.0 told)); alone = it.1 }
+  read_cause Then t error.Corrupt it told reads early rest = record { unreadable = corrupt_from_start r.meanings.after s.base t.world.history (reads told Corrupt (it.0 told)); unreplaced = it.1 }
   read_cause Then t error.NoMemory it told reads early rest = tt
   read_cause Then t other it told reads early rest = rest it.value other (reads told (Held it.value) (it.read told)) it.then
 

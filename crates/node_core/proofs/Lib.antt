@@ -14,6 +14,7 @@ pub mod KeepingReads
 pub mod KeepingWrites
 pub mod LivingTurns
 pub mod ReadLemmas
+pub mod ReadyLemmas
 pub mod RenameLemmas
 pub mod RowLemmas
 pub mod SilenceLemmas

@@ -4,6 +4,7 @@ use crate::write_call::WriteCall;
 use shelf::Parts;
 
 mod at_step;
+mod step;
 mod stepping;
 
 /// An update in progress.

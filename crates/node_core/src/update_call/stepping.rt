@@ -24,7 +24,7 @@ use store_traits::{UpdateError, Word};
 
 impl<P: Parts> UpdateCall<P> {
     /// The row's own work, of a call that lives.
-    fn work<W: Word>(
+    pub(super) fn work<W: Word>(
         &mut self,
         alloc: Global,
         shelf: &mut Shelf<P>,
