@@ -14,6 +14,7 @@ pub mod KeepingReads
 pub mod KeepingWrites
 pub mod LivingTurns
 pub mod ReadLemmas
+pub mod ReadinessLemmas
 pub mod ReadyLemmas
 pub mod RenameLemmas
 pub mod RowLemmas
@@ -21,4 +22,5 @@ pub mod SilenceLemmas
 pub mod SparingLemmas
 pub mod StepsLemmas
 pub mod TakeLemmas
+pub mod TurnLemmas
 pub mod UnreadableBase

@@ -1,4 +1,4 @@
-ghost use Rattle.std.specs.Prelude.{◌≤◌, IfErr, IfOk, IsTrue};
+ghost use Rattle.std.specs.Prelude.{◌≡◌, ◌≤◌, IfErr, IfOk, IsTrue};
 ghost use Rattle.shelf.specs.ShelfSeen.{shelf_seen};
 ghost use Rattle.shelf.specs.ShelfTurns.{IsRaised, MayFault, Owns};
 ghost use Rattle.node_core.specs.ReadHeld.{HasRead, ReadFails};
@@ -19,6 +19,8 @@ pub fn read_held<P: Parts>(
     requires lawful { IsTrue P.F.told → MayFault P.T.after origin.call (shelf_seen shelf.old) }
     requires unraised { IsRaised origin.call (shelf_seen shelf.old) → ⊥ }
     ensures ok { IfOk result (λ given. HasRead P.C.Codec P.T.Transform P.F.Folder origin given (shelf_seen shelf.old) (shelf_seen shelf.new)) }
+    ensures store { (shelf_seen shelf.new).store ≡ (shelf_seen shelf.old).store }
+    ensures codec { shelf.new.codec ≡ shelf.old.codec }
     ensures err { IfErr result (λ error. ReadFails P.C.Codec P.T.Transform P.F.Folder origin error (shelf_seen shelf.old) (shelf_seen shelf.new)) }
 {
     let error = match shelf.read_main(alloc, origin.call) {

@@ -21,6 +21,8 @@ impl<P: Parts> InitCall<P> {
         requires ready { IsInitialising P.C.Codec P.T.Transform P.F.Folder origin self (shelf_seen shelf.old) }
         requires lives { is_dead origin.call.node (shelf_seen shelf.old).list ≡ false }
         ensures row { (edit : P.T) → InitRow P.C.Codec P.T.Transform P.F.Folder origin edit (init_seen edit self) (shelf_seen shelf.old) result (shelf_seen shelf.new) }
+        ensures store { (shelf_seen shelf.new).store ≡ (shelf_seen shelf.old).store }
+        ensures codec { shelf.new.codec ≡ shelf.old.codec }
         ensures finished { is_finished result ≡ is_last self }
         ensures raises { raises_of (shelf_seen shelf.new).list ≡ raises_of (shelf_seen shelf.old).list }
     {
@@ -38,6 +40,8 @@ fn read_first<P: Parts>(origin: Origin, alloc: Global, shelf: &mut Shelf<P>) -> 
     requires lives { is_dead origin.call.node (shelf_seen shelf.old).list ≡ false }
     ensures finished { is_finished result ≡ false }
     ensures row { (edit : P.T) → InitRow P.C.Codec P.T.Transform P.F.Folder origin edit (at.ReadingFirst edit) (shelf_seen shelf.old) result (shelf_seen shelf.new) }
+    ensures store { (shelf_seen shelf.new).store ≡ (shelf_seen shelf.old).store }
+    ensures codec { shelf.new.codec ≡ shelf.old.codec }
     ensures raises { raises_of (shelf_seen shelf.new).list ≡ raises_of (shelf_seen shelf.old).list }
 {
     match read_held(origin, alloc, shelf) {
@@ -52,6 +56,8 @@ fn finish<P: Parts>(origin: Origin, shelf: &mut Shelf<P>) -> Initialised<P>
     requires lives { is_dead origin.call.node (shelf_seen shelf.old).list ≡ false }
     ensures finished { is_finished result ≡ true }
     ensures row { (edit : P.T) → InitRow P.C.Codec P.T.Transform P.F.Folder origin edit (at.Finishing edit) (shelf_seen shelf.old) result (shelf_seen shelf.new) }
+    ensures store { (shelf_seen shelf.new).store ≡ (shelf_seen shelf.old).store }
+    ensures codec { shelf.new.codec ≡ shelf.old.codec }
     ensures raises { raises_of (shelf_seen shelf.new).list ≡ raises_of (shelf_seen shelf.old).list }
 {
     shelf.finish_init(origin.call);

@@ -37,6 +37,8 @@ impl<P: Parts> UpdateCall<P> {
         requires ready { Ready P.C.Codec P.T.Transform P.F.Folder self.old.origin (state_seen self.old.state) (shelf_seen shelf.old) }
         requires lives { is_dead self.old.origin.call.node (shelf_seen shelf.old).list ≡ false }
         ensures row { RowFrom P.C.Codec P.T.Transform P.F.Folder self.old.origin (state_seen self.old.state) (shelf_seen shelf.old) result (state_seen self.new.state) (shelf_seen shelf.new) }
+        ensures store { (shelf_seen shelf.new).store ≡ (shelf_seen shelf.old).store }
+        ensures codec { shelf.new.codec ≡ shelf.old.codec }
         ensures equips { StepEquips P.C.Codec P.T.Transform P.F.Folder result (state_seen self.new.state) (shelf_seen shelf.new) }
         ensures number { W.number word.new ≡ raises_of (shelf_seen shelf.new).list }
         ensures made { W.made word.new ≡ W.made word.old }
@@ -64,6 +66,8 @@ impl<P: Parts> UpdateCall<P> {
         requires ready { Ready P.C.Codec P.T.Transform P.F.Folder self.old.origin (at.First edit) (shelf_seen shelf.old) }
         requires gone { self.old.state ≡ State.Gone }
         ensures row { RowFrom P.C.Codec P.T.Transform P.F.Folder self.old.origin (at.First edit) (shelf_seen shelf.old) result (state_seen self.new.state) (shelf_seen shelf.new) }
+        ensures store { (shelf_seen shelf.new).store ≡ (shelf_seen shelf.old).store }
+        ensures codec { shelf.new.codec ≡ shelf.old.codec }
         ensures raises { raises_of (shelf_seen shelf.new).list ≡ raises_of (shelf_seen shelf.old).list }
         ensures origin { self.new.origin ≡ self.old.origin }
         ensures initialised { self.new.initialised ≡ self.old.initialised }
@@ -108,6 +112,8 @@ impl<P: Parts> UpdateCall<P> {
         requires lives { is_dead self.old.origin.call.node (shelf_seen shelf.old).list ≡ false }
         requires gone { self.old.state ≡ State.Gone }
         ensures row { RowFrom P.C.Codec P.T.Transform P.F.Folder self.old.origin (init_seen edit init) (shelf_seen shelf.old) result (state_seen self.new.state) (shelf_seen shelf.new) }
+        ensures store { (shelf_seen shelf.new).store ≡ (shelf_seen shelf.old).store }
+        ensures codec { shelf.new.codec ≡ shelf.old.codec }
         ensures raises { raises_of (shelf_seen shelf.new).list ≡ raises_of (shelf_seen shelf.old).list }
         ensures origin { self.new.origin ≡ self.old.origin }
         ensures initialised { self.new.initialised ≡ (self.old.initialised || is_last init) }
@@ -137,6 +143,8 @@ impl<P: Parts> UpdateCall<P> {
         requires lives { is_dead self.old.origin.call.node (shelf_seen shelf.old).list ≡ false }
         requires gone { self.old.state ≡ State.Gone }
         ensures row { RowFrom P.C.Codec P.T.Transform P.F.Folder self.old.origin (at.Reading edit) (shelf_seen shelf.old) result (state_seen self.new.state) (shelf_seen shelf.new) }
+        ensures store { (shelf_seen shelf.new).store ≡ (shelf_seen shelf.old).store }
+        ensures codec { shelf.new.codec ≡ shelf.old.codec }
         ensures equips { StepEquips P.C.Codec P.T.Transform P.F.Folder result (state_seen self.new.state) (shelf_seen shelf.new) }
         ensures raises { raises_of (shelf_seen shelf.new).list ≡ raises_of (shelf_seen shelf.old).list }
         ensures origin { self.new.origin ≡ self.old.origin }
@@ -180,6 +188,8 @@ impl<P: Parts> UpdateCall<P> {
         requires lives { is_dead self.old.origin.call.node (shelf_seen shelf.old).list ≡ false }
         requires gone { self.old.state ≡ State.Gone }
         ensures row { RowFrom P.C.Codec P.T.Transform P.F.Folder self.old.origin (write_seen write) (shelf_seen shelf.old) result (state_seen self.new.state) (shelf_seen shelf.new) }
+        ensures store { (shelf_seen shelf.new).store ≡ (shelf_seen shelf.old).store }
+        ensures codec { shelf.new.codec ≡ shelf.old.codec }
         ensures equips { StepEquips P.C.Codec P.T.Transform P.F.Folder result (state_seen self.new.state) (shelf_seen shelf.new) }
         ensures number { W.number word.new ≡ raises_of (shelf_seen shelf.new).list }
         ensures made { W.made word.new ≡ W.made word.old }
@@ -209,6 +219,8 @@ impl<P: Parts> UpdateCall<P> {
         requires lives { is_dead self.old.origin.call.node (shelf_seen shelf.old).list ≡ false }
         requires gone { self.old.state ≡ State.Gone }
         ensures row { RowFrom P.C.Codec P.T.Transform P.F.Folder self.old.origin (at.SyncingFolder (at.Changed place)) (shelf_seen shelf.old) result (state_seen self.new.state) (shelf_seen shelf.new) }
+        ensures store { (shelf_seen shelf.new).store ≡ (shelf_seen shelf.old).store }
+        ensures codec { shelf.new.codec ≡ shelf.old.codec }
         ensures raises { raises_of (shelf_seen shelf.new).list ≡ raises_of (shelf_seen shelf.old).list }
         ensures origin { self.new.origin ≡ self.old.origin }
         ensures initialised { self.new.initialised ≡ self.old.initialised }
@@ -232,6 +244,8 @@ impl<P: Parts> UpdateCall<P> {
         requires lives { is_dead self.old.origin.call.node (shelf_seen shelf.old).list ≡ false }
         requires gone { self.old.state ≡ State.Gone }
         ensures row { RowFrom P.C.Codec P.T.Transform P.F.Folder self.old.origin (at.SyncingFolder (at.Kept edit)) (shelf_seen shelf.old) result (state_seen self.new.state) (shelf_seen shelf.new) }
+        ensures store { (shelf_seen shelf.new).store ≡ (shelf_seen shelf.old).store }
+        ensures codec { shelf.new.codec ≡ shelf.old.codec }
         ensures raises { raises_of (shelf_seen shelf.new).list ≡ raises_of (shelf_seen shelf.old).list }
         ensures origin { self.new.origin ≡ self.old.origin }
         ensures initialised { self.new.initialised ≡ self.old.initialised }

@@ -24,6 +24,8 @@ impl<P: Parts> WriteCall<P> {
         requires ready { Ready P.C.Codec P.T.Transform P.F.Folder origin (write_seen self) (shelf_seen shelf.old) }
         requires lives { is_dead origin.call.node (shelf_seen shelf.old).list ≡ false }
         ensures row { WriteRow P.C.Codec P.T.Transform P.F.Folder origin (write_seen self) (shelf_seen shelf.old) result (shelf_seen shelf.new) }
+        ensures store { (shelf_seen shelf.new).store ≡ (shelf_seen shelf.old).store }
+        ensures codec { shelf.new.codec ≡ shelf.old.codec }
         ensures equips { WriteEquips P.C.Codec P.T.Transform P.F.Folder result (shelf_seen shelf.new) }
         ensures number { W.number word.new ≡ raises_of (shelf_seen shelf.new).list }
         ensures made { W.made word.new ≡ W.made word.old }
@@ -51,6 +53,8 @@ fn raise<P: Parts, W: Word>(
     requires ready { Ready P.C.Codec P.T.Transform P.F.Folder origin (at.Raising (unwritten (kind_seen change) plan)) (shelf_seen shelf.old) }
     requires lives { is_dead origin.call.node (shelf_seen shelf.old).list ≡ false }
     ensures row { WriteRow P.C.Codec P.T.Transform P.F.Folder origin (at.Raising (unwritten (kind_seen change) plan)) (shelf_seen shelf.old) result (shelf_seen shelf.new) }
+    ensures store { (shelf_seen shelf.new).store ≡ (shelf_seen shelf.old).store }
+    ensures codec { shelf.new.codec ≡ shelf.old.codec }
     ensures equips { WriteEquips P.C.Codec P.T.Transform P.F.Folder result (shelf_seen shelf.new) }
     ensures number { W.number word.new ≡ raises_of (shelf_seen shelf.new).list }
     ensures made { W.made word.new ≡ W.made word.old }
@@ -68,6 +72,8 @@ fn create<P: Parts>(
     requires ready { Ready P.C.Codec P.T.Transform P.F.Folder origin (at.Creating (unwritten (kind_seen change) plan)) (shelf_seen shelf.old) }
     requires lives { is_dead origin.call.node (shelf_seen shelf.old).list ≡ false }
     ensures row { WriteRow P.C.Codec P.T.Transform P.F.Folder origin (at.Creating (unwritten (kind_seen change) plan)) (shelf_seen shelf.old) result (shelf_seen shelf.new) }
+    ensures store { (shelf_seen shelf.new).store ≡ (shelf_seen shelf.old).store }
+    ensures codec { shelf.new.codec ≡ shelf.old.codec }
     ensures equips { WriteEquips P.C.Codec P.T.Transform P.F.Folder result (shelf_seen shelf.new) }
     ensures raises { raises_of (shelf_seen shelf.new).list ≡ raises_of (shelf_seen shelf.old).list }
 {
@@ -86,6 +92,8 @@ fn append<P: Parts>(
     requires ready { Ready P.C.Codec P.T.Transform P.F.Folder origin (at.Appending (filled (kind_seen change) plan)) (shelf_seen shelf.old) }
     requires lives { is_dead origin.call.node (shelf_seen shelf.old).list ≡ false }
     ensures row { WriteRow P.C.Codec P.T.Transform P.F.Folder origin (at.Appending (filled (kind_seen change) plan)) (shelf_seen shelf.old) result (shelf_seen shelf.new) }
+    ensures store { (shelf_seen shelf.new).store ≡ (shelf_seen shelf.old).store }
+    ensures codec { shelf.new.codec ≡ shelf.old.codec }
     ensures equips { WriteEquips P.C.Codec P.T.Transform P.F.Folder result (shelf_seen shelf.new) }
     ensures raises { raises_of (shelf_seen shelf.new).list ≡ raises_of (shelf_seen shelf.old).list }
 {
@@ -104,6 +112,8 @@ fn sync_scratch<P: Parts>(
     requires ready { Ready P.C.Codec P.T.Transform P.F.Folder origin (at.SyncingScratch (filled (kind_seen change) plan)) (shelf_seen shelf.old) }
     requires lives { is_dead origin.call.node (shelf_seen shelf.old).list ≡ false }
     ensures row { WriteRow P.C.Codec P.T.Transform P.F.Folder origin (at.SyncingScratch (filled (kind_seen change) plan)) (shelf_seen shelf.old) result (shelf_seen shelf.new) }
+    ensures store { (shelf_seen shelf.new).store ≡ (shelf_seen shelf.old).store }
+    ensures codec { shelf.new.codec ≡ shelf.old.codec }
     ensures equips { WriteEquips P.C.Codec P.T.Transform P.F.Folder result (shelf_seen shelf.new) }
     ensures raises { raises_of (shelf_seen shelf.new).list ≡ raises_of (shelf_seen shelf.old).list }
 {
@@ -122,6 +132,8 @@ fn rename<P: Parts>(
     requires ready { Ready P.C.Codec P.T.Transform P.F.Folder origin (at.Renaming (whole (kind_seen change) plan)) (shelf_seen shelf.old) }
     requires lives { is_dead origin.call.node (shelf_seen shelf.old).list ≡ false }
     ensures row { WriteRow P.C.Codec P.T.Transform P.F.Folder origin (at.Renaming (whole (kind_seen change) plan)) (shelf_seen shelf.old) result (shelf_seen shelf.new) }
+    ensures store { (shelf_seen shelf.new).store ≡ (shelf_seen shelf.old).store }
+    ensures codec { shelf.new.codec ≡ shelf.old.codec }
     ensures equips { WriteEquips P.C.Codec P.T.Transform P.F.Folder result (shelf_seen shelf.new) }
     ensures raises { raises_of (shelf_seen shelf.new).list ≡ raises_of (shelf_seen shelf.old).list }
 {
