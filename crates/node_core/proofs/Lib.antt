@@ -13,6 +13,7 @@ pub mod KeepingOn
 pub mod KeepingReads
 pub mod KeepingWrites
 pub mod LivingTurns
+pub mod NewCalls
 pub mod ReadLemmas
 pub mod ReadinessLemmas
 pub mod ReadyLemmas

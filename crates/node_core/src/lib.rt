@@ -5,11 +5,15 @@
 
 mod applying;
 mod init_call;
+mod laws;
 mod origin;
 mod read_errors;
 mod read_held;
 mod update_call;
 mod write_call;
 
+pub use laws::{
+    calls_stay_ready, new_calls_are_ready, turns_give_no_lock_to_others, turns_spare_other_calls,
+};
 pub use shelf::Progress;
 pub use update_call::UpdateCall;

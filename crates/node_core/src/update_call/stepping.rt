@@ -235,11 +235,7 @@ impl<P: Parts> UpdateCall<P> {
     }
 
     /// The folder is synced for an edit that kept the value, which is told by a Same, and the call ends.
-    fn sync_kept(
-        &mut self,
-        shelf: &mut Shelf<P>,
-        edit: P::T,
-    ) -> Progress<Result<u64, UpdateError>>
+    fn sync_kept(&mut self, shelf: &mut Shelf<P>, edit: P::T) -> Progress<Result<u64, UpdateError>>
         requires ready { Ready P.C.Codec P.T.Transform P.F.Folder self.old.origin (at.SyncingFolder (at.Kept edit)) (shelf_seen shelf.old) }
         requires lives { is_dead self.old.origin.call.node (shelf_seen shelf.old).list ≡ false }
         requires gone { self.old.state ≡ State.Gone }
