@@ -1,5 +1,5 @@
 -- The turn in which an update applies its edit to the value that it read.
-use Rattle.std.proofs.Common.{◌≡◌, ◌∙◌, ◌≤◌, inl, inr, ℕ, List, [], length, Some, None, IsTrue, refl, sym, ap, Err}
+use Rattle.std.proofs.Common.{◌≡◌, ◌∙◌, ◌≤◌, inl, inr, ℕ, List, [], length, Some, IsTrue, refl, sym, ap, Err}
 use Rattle.store_traits.specs.declared.applied.Applied.{Applied}
 use Rattle.store_traits.specs.declared.applied.Applied.TheVariants.{Changed}
 use Rattle.store_traits.specs.declared.codec.Codec as codec_trait
@@ -14,18 +14,15 @@ use Rattle.hist_journal.specs.declared.seen.BaseSeen.TheVariants.{Held}
 use Rattle.hist_journal.specs.declared.seen.KindSeen.TheVariants.{Edit}
 use Rattle.hist_journal.specs.Folds.{applied_or, edited, value_after}
 use Rattle.shelf.specs.declared.progress.Progress.TheVariants.{Ended, Moved}
-use Rattle.shelf.specs.declared.store.Store.{Store}
-use Rattle.shelf.specs.Calls.{At, Gone, Kept, Raising, Reading, SyncingFolder}
+use Rattle.shelf.specs.Calls.{Gone, Kept, Raising, Reading, SyncingFolder}
 use Rattle.shelf.specs.Effects.{DoesLast, Keeps}
-use Rattle.shelf.specs.Kept.{MayBeMain}
 use Rattle.shelf.specs.Legal.{value_at}
 use Rattle.shelf.specs.ShelfSeen.{ShelfSeen}
 use Rattle.shelf.specs.ShelfTurns.{Adds, Frees}
-use Rattle.shelf.specs.World.{Rules}
 use Rattle.node_core.specs.declared.origin.Origin.{Origin}
 use Rattle.node_core.specs.Applying.{AppliedRow, MakesPlan}
 use Rattle.node_core.specs.ReadHeld.{HasRead}
-use Rattle.node_core.specs.Ready.{Equipped, MayWrite, rules_seen}
+use Rattle.node_core.specs.Ready.{Equipped, rules_seen}
 use Rattle.node_core.specs.Steps.{RowFrom}
 use Rattle.node_core.specs.Views.{turned, unwritten}
 use Rattle.node_core.proofs.RowLemmas.{adds_then_frees, does_row, last_row}

@@ -1,23 +1,20 @@
 -- What a write is equipped with stays so.
-use Rattle.std.proofs.Common.{◌≡◌, ◌∙◌, ◌+◌, ◌-◌, ◌≤◌, ◌==◌, ℕ, Bool, true, false, List, [], ◌∷◌, ◌++◌, length, take, drop, Some, IfSome, IsTrue, refl, sym, ap, subst, arith, if◌then◌else◌}
+use Rattle.std.proofs.Common.{◌≡◌, ◌+◌, ◌≤◌, ◌==◌, ℕ, Bool, true, false, List, [], ◌∷◌, ◌++◌, length, take, drop, IsTrue, refl, arith, if◌then◌else◌}
 use Rattle.std.proofs.lemmas.List.{length-drop, length-take}
 use Rattle.store_traits.specs.declared.codec.Codec as codec_trait
 use Rattle.store_traits.specs.declared.transform.Transform as transform_trait
 use Rattle.folder_disk.specs.declared.folder.Folder as folder_trait
-use Rattle.folder_disk.specs.Room.{Room, HasRoomFor, Uses}
-use Rattle.hist_journal.specs.declared.seen.EntrySeen.{EntrySeen}
+use Rattle.folder_disk.specs.Room.{Uses}
 use Rattle.hist_journal.specs.declared.seen.KindSeen.TheVariants.{Raise}
 use Rattle.hist_journal.proofs.FoldLemmas.{value_of-other}
-use Rattle.scratch_rename.specs.Filling.{next_piece, filled_more}
-use Rattle.shelf.specs.declared.store.Store.{Store}
-use Rattle.shelf.specs.Calls.{At, Raising, Creating, Appending, SyncingScratch, Plan}
+use Rattle.scratch_rename.specs.Filling.{next_piece}
+use Rattle.shelf.specs.Calls.{Raising, Creating, Appending, SyncingScratch, Plan}
 use Rattle.shelf.specs.Legal.{value_at}
 use Rattle.shelf.specs.ShelfSeen.{ShelfSeen}
 use Rattle.shelf.specs.ShelfTurns.{Adds}
-use Rattle.shelf.specs.World.{Rules}
 use Rattle.shelf.specs.WriteRows.{filling, piece_written}
 use Rattle.node_core.specs.declared.origin.Origin.{Origin}
-use Rattle.node_core.specs.Ready.{CanFill, Equipped, HasFolderRoom, MayWrite, rules_seen}
+use Rattle.node_core.specs.Ready.{CanFill, Equipped, MayWrite, rules_seen}
 
 -- what is appended has memory, and so has the rest
 pub piece_fits : (rest : List ℕ) (bytes : ℕ) → length rest ≤ bytes → length (take 4096 rest) ≤ bytes

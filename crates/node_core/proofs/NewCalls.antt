@@ -1,5 +1,5 @@
 -- A call of which nothing was told may begin.
-use Rattle.std.proofs.Common.{◌≡◌, ◌∙◌, ◌&&◌, Bool, true, false, List, Some, None, IsTrue, refl, sym}
+use Rattle.std.proofs.Common.{◌≡◌, ◌∙◌, ◌&&◌, Bool, true, false, List, Some, None, refl, sym}
 use Rattle.std.specs.List.{list_any}
 use Rattle.store_traits.specs.declared.codec.Codec as codec_trait
 use Rattle.store_traits.specs.declared.ids.CallId.{CallId}
@@ -17,7 +17,7 @@ use Rattle.shelf.specs.ShelfSeen.{ShelfSeen}
 use Rattle.shelf.proofs.Bools.{never}
 use Rattle.shelf.proofs.PendingMeanwhile.{pending_own}
 use Rattle.shelf.proofs.RaiseLemmas.{none_of_fewer}
-use Rattle.node_core.specs.Own.{IsEarly, is_late}
+use Rattle.node_core.specs.Own.{is_late}
 use Rattle.node_core.specs.Ready.{Ready}
 
 not_own : (own is : Bool) → (own && true) ≡ false → (own && is) ≡ false

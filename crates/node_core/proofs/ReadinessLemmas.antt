@@ -1,6 +1,5 @@
 -- A node that a call has initialised is initialised at the call's next first turn.
-use Rattle.std.proofs.Common.{◌≡◌, ◌∙◌, Bool, true, false, ◌==◌, List, [], ◌∷◌, ◌++◌, Option, Some, None, unwrap_or, refl, sym, ap, arith, if◌then◌else◌, ℕ, length, inl, inr}
-use Rattle.std.specs.List.{list_any}
+use Rattle.std.proofs.Common.{◌≡◌, ◌∙◌, Bool, true, false, ◌==◌, List, [], ◌∷◌, ◌++◌, unwrap_or, refl, sym, ap, arith, if◌then◌else◌, ℕ, length, inl, inr}
 use Rattle.std.proofs.lemmas.Bool.Decides.{nat_tests}
 use Rattle.store_traits.specs.declared.ids.NodeId.{NodeId}
 use Rattle.hist_journal.specs.declared.seen.EntrySeen.{EntrySeen}
@@ -11,11 +10,11 @@ use Rattle.hist_journal.specs.Nodes.{is_ready, mark_if, ready_mark}
 use Rattle.hist_journal.proofs.NodeLemmas.{is_ready-push}
 use Rattle.shelf.specs.declared.progress.Progress.TheVariants.{Moved}
 use Rattle.shelf.specs.declared.store.Store.{Store}
-use Rattle.shelf.specs.Calls.{At, Call, First, ReadingFirst, Migrating, Finishing, Reading, Raising, Creating, Appending, SyncingScratch, Renaming, SyncingFolder, Gone, Plan, is_first, is_gone}
+use Rattle.shelf.specs.Calls.{At, First, ReadingFirst, Migrating, Finishing, Reading, Raising, Creating, Appending, SyncingScratch, Renaming, SyncingFolder, Gone, Plan, is_first, is_gone}
 use Rattle.shelf.specs.Effects.{is_ready_now}
 use Rattle.shelf.specs.Meanwhile.{NoDeathOf}
 use Rattle.shelf.specs.Turn.{Row, Turn, TurnBy, begin, dies_now, has_died_by}
-use Rattle.shelf.specs.World.{Rules, Turned, World}
+use Rattle.shelf.specs.World.{Rules, Turned}
 use Rattle.shelf.specs.WriteRows.{piece_written}
 use Rattle.shelf.proofs.Bools.{never}
 use Rattle.shelf.proofs.MeanwhileLemmas.{carried, spared_parts}

@@ -5,20 +5,20 @@ use Rattle.store_traits.specs.declared.transform.Transform as transform_trait
 use Rattle.folder_disk.specs.declared.folder.Folder as folder_trait
 use Rattle.folder_disk.specs.Room.{Room}
 use Rattle.shelf.specs.declared.store.Store.{Store}
-use Rattle.shelf.specs.Calls.{At, Call, First, Gone, Raising, Creating, Appending, SyncingScratch, Renaming, is_first, step_at}
+use Rattle.shelf.specs.Calls.{At, Call, First, Gone, step_at}
 use Rattle.shelf.specs.Deaths.{has_died}
 use Rattle.shelf.specs.Legal.{value_at}
-use Rattle.shelf.specs.Meanwhile.{NoDeathOf, are_outer}
+use Rattle.shelf.specs.Meanwhile.{NoDeathOf}
 use Rattle.shelf.specs.ShelfSeen.{ShelfSeen}
 use Rattle.shelf.specs.World.{Rules, World}
 use Rattle.shelf.specs.WritingSteps.{is_writing}
 use Rattle.shelf.proofs.Bools.{never}
 use Rattle.shelf.proofs.MeanwhileLemmas as meanwhile
 use Rattle.node_core.specs.declared.origin.Origin.{Origin}
-use Rattle.node_core.specs.Between.{Between, Undisturbed, Died}
-use Rattle.node_core.specs.Knows.{Holds, Knows}
+use Rattle.node_core.specs.Between.{Undisturbed}
+use Rattle.node_core.specs.Knows.{Knows}
 use Rattle.node_core.specs.Phases.{is_holding, is_raised}
-use Rattle.node_core.specs.Ready.{Equipped, HasFolderRoom, KnowsNow, MayWrite, Ready, plan_at, rules_seen}
+use Rattle.node_core.specs.Ready.{HasFolderRoom, KnowsNow, MayWrite, Ready, plan_at, rules_seen}
 use Rattle.node_core.specs.Step.{KeepsRoom, MayStep}
 use Rattle.node_core.specs.Views.{call_seen, room_of, world_seen}
 use Rattle.node_core.proofs.BetweenLemmas.{between_keeps_knowledge, owner_kept}

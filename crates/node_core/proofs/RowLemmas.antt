@@ -1,5 +1,5 @@
 -- What a turn of the shelf leaves, as a row of the step table.
-use Rattle.std.proofs.Common.{◌≡◌, ◌∙◌, ◌+◌, ◌-◌, ◌≤◌, ℕ, Bool, true, false, ◌||◌, List, [], ◌∷◌, ◌++◌, length, Option, Some, None, IsTrue, refl, sym, ap, arith, if◌then◌else◌}
+use Rattle.std.proofs.Common.{◌≡◌, ◌∙◌, ◌+◌, ◌≤◌, ℕ, Bool, true, false, ◌||◌, List, [], ◌∷◌, ◌++◌, length, Option, Some, None, IsTrue, refl, sym, ap, if◌then◌else◌}
 use Rattle.std.specs.List.{list_any}
 use Rattle.store_traits.specs.Faults.{Rose}
 use Rattle.store_traits.specs.declared.ids.CallId.{CallId}
@@ -21,7 +21,7 @@ use Rattle.shelf.specs.WriteRows.{Raises}
 use Rattle.shelf.proofs.LedgerLemmas.{freed_room_own}
 use Rattle.shelf.proofs.StepLemmas.{itself}
 use Rattle.node_core.specs.declared.origin.Origin.{Origin}
-use Rattle.node_core.specs.Views.{call_seen, room_of, turned, world_seen}
+use Rattle.node_core.specs.Views.{room_of, turned}
 
 -- a call that owns the lock has the owner's room
 owned_room : (call : CallId) (owner : Option CallId) (room : ℕ) → owner ≡ Some call → room_of call owner room ≡ room

@@ -1,8 +1,7 @@
 -- The turn in which a call takes the lock.
-use Rattle.std.proofs.Common.{◌≡◌, ◌∙◌, ◌<◌, ℕ, Bool, true, false, List, [], Option, Some, refl, sym, ap, subst, arith, if◌then◌else◌}
+use Rattle.std.proofs.Common.{◌≡◌, ◌∙◌, ℕ, Bool, [], Some, refl, sym, ap, if◌then◌else◌}
 use Rattle.store_traits.specs.declared.ids.CallId.{CallId}
 use Rattle.folder_disk.specs.declared.folder.Folder as folder_trait
-use Rattle.hist_journal.specs.Folds.{raises_of}
 use Rattle.hist_journal.specs.Nodes.{is_ready}
 use Rattle.shelf.specs.Calls.{At, First, Reading, ReadingFirst}
 use Rattle.shelf.specs.Effects.{freed}
@@ -15,7 +14,7 @@ use Rattle.shelf.specs.Takes.{HasNone, HasSpace, TakesLock}
 use Rattle.shelf.specs.World.{Rules, weight_at}
 use Rattle.shelf.proofs.StepLemmas.{itself}
 use Rattle.node_core.specs.declared.origin.Origin.{Origin}
-use Rattle.node_core.specs.Views.{call_seen, room_of, turned, world_seen}
+use Rattle.node_core.specs.Views.{turned}
 
 -- what a ledger shows is what its shelf shows
 pub record IsOf {C F V T : Type 0} (l : LedgerSeen V T) (s : ShelfSeen C F V T) : Type 0 where

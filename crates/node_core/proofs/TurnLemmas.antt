@@ -1,10 +1,9 @@
 -- A turn, put together of the rules of every turn and the row's own work.
-use Rattle.std.proofs.Common.{◌≡◌, ◌∙◌, ◌||◌, ℕ, Bool, true, false, List, [], ◌∷◌, ◌++◌, length, Option, Some, None, unwrap_or, IsTrue, refl, sym, ap, subst, Result, Ok, Err}
+use Rattle.std.proofs.Common.{◌≡◌, ◌∙◌, ◌||◌, ℕ, Bool, true, false, List, ◌++◌, length, Some, unwrap_or, IsTrue, refl, sym, ap, subst, Result, Ok, Err}
 use Rattle.std.specs.List.{list_any}
 use Rattle.std.proofs.lemmas.Bool.{or_parts}
 use Rattle.std.proofs.lemmas.List.Folds.{list_any-append}
 use Rattle.store_traits.specs.declared.codec.Codec as codec_trait
-use Rattle.store_traits.specs.declared.ids.CallId.{CallId}
 use Rattle.store_traits.specs.declared.ids.NodeId.{NodeId}
 use Rattle.store_traits.specs.declared.transform.Transform as transform_trait
 use Rattle.store_traits.specs.declared.update_error.UpdateError.{UpdateError}
@@ -17,27 +16,24 @@ use Rattle.hist_journal.specs.Kinds.{is_death_of}
 use Rattle.hist_journal.specs.Nodes.{is_ready}
 use Rattle.shelf.specs.declared.progress.Progress.{Progress}
 use Rattle.shelf.specs.declared.progress.Progress.TheVariants.{Moved, Blocked, Ended}
-use Rattle.shelf.specs.declared.store.Store.{Store}
 use Rattle.shelf.specs.Calls.{At, Call, First, Gone, is_first, is_gone}
-use Rattle.shelf.specs.Deaths.{has_died}
 use Rattle.shelf.specs.Entries.{is_death}
 use Rattle.shelf.specs.Meanwhile.{NoDeathOf}
 use Rattle.shelf.specs.ShelfSeen.{ShelfSeen}
-use Rattle.shelf.specs.Turn.{Turn, TurnBy, begin, dies_now, has_died_by}
-use Rattle.shelf.specs.World.{Rules, Turned, World}
+use Rattle.shelf.specs.Turn.{Turn, begin, dies_now, has_died_by}
+use Rattle.shelf.specs.World.{Turned, World}
 use Rattle.shelf.proofs.Bools.{never}
 use Rattle.shelf.proofs.RaiseLemmas.{none_of_fewer}
 use Rattle.shelf.proofs.DeathLemmas.{has_not_died}
 use Rattle.shelf.proofs.StepLemmas.{turn_waits}
 use Rattle.node_core.specs.declared.origin.Origin.{Origin}
-use Rattle.node_core.specs.Knows.{Knows}
 use Rattle.node_core.specs.Own.{IsFor}
 use Rattle.node_core.specs.Phases.{is_finishing}
 use Rattle.node_core.specs.Reading.{ReadsTruly}
 use Rattle.node_core.specs.Ready.{Equipped, Ready, rules_seen}
 use Rattle.node_core.specs.Step.{MayStep, ShowsAnswer, StepsFall, TurnFrom}
 use Rattle.node_core.specs.Steps.{RowFrom, StepEquips}
-use Rattle.node_core.specs.Views.{call_seen, turned, world_seen}
+use Rattle.node_core.specs.Views.{turned, world_seen}
 use Rattle.node_core.proofs.Acknowledging.{update_is_acknowledged}
 use Rattle.node_core.proofs.CauseOfAnswers.{error_has_cause}
 use Rattle.node_core.proofs.KeepingOn.{knows_begun}

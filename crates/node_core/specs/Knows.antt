@@ -1,7 +1,6 @@
 -- What an update knows of the world between two of its turns.
 use Rattle.std.specs.Prelude.{◌≡◌, ◌↔◌, ◌≤◌, ℕ, true, false, not, List, ◌++◌, length, Some, IfSome, IsTrue}
 use Rattle.std.specs.List.{list_any}
-use Rattle.hist_journal.specs.declared.seen.BaseSeen.{BaseSeen}
 use Rattle.hist_journal.specs.declared.seen.BaseSeen.TheVariants.{Held}
 use Rattle.hist_journal.specs.declared.seen.EntrySeen.{EntrySeen}
 use Rattle.hist_journal.specs.Folds.{value_after}
@@ -10,7 +9,7 @@ use Rattle.hist_journal.specs.Quiet.{pending}
 use Rattle.folder_disk.specs.Contents.{Contents, Unsynced, Synced}
 use Rattle.shelf.specs.declared.store.Store.{Store}
 use Rattle.shelf.specs.CallOrder.{is_later}
-use Rattle.shelf.specs.Calls.{At, Call, First, ReadingFirst, Migrating, Finishing, Reading, Raising, Creating, Appending, SyncingScratch, Renaming, SyncingFolder, Gone, Changed, Kept, Plan}
+use Rattle.shelf.specs.Calls.{At, Call, Migrating, Finishing, Raising, Creating, Appending, SyncingScratch, Renaming, SyncingFolder, Kept, Plan}
 use Rattle.shelf.specs.Changes.{KeepsValue, MakesValue}
 use Rattle.shelf.specs.Legal.{value_at}
 use Rattle.shelf.specs.World.{Rules, World}

@@ -1,5 +1,5 @@
 -- How far an update has written its plan, by its next step.
-use Rattle.std.specs.Prelude.{◌≡◌, ◌≤◌, ℕ, [], length}
+use Rattle.std.specs.Prelude.{◌≡◌, ◌≤◌, [], length}
 use Rattle.shelf.specs.Calls.{At, Raising, Creating, Appending, SyncingScratch, Renaming, Plan}
 use Rattle.node_core.specs.Own.{WritesEdit}
 

@@ -1,5 +1,5 @@
 -- The steps of the parts of a call, each as its row of the step table.
-use Rattle.std.specs.Prelude.{◌≡◌, ℕ, Bool, true, false, Result, Err}
+use Rattle.std.specs.Prelude.{ℕ, Bool, true, false, Result, Err}
 use Rattle.store_traits.specs.declared.codec.Codec as codec_trait
 use Rattle.store_traits.specs.declared.read_error.ReadError.{ReadError}
 use Rattle.store_traits.specs.declared.read_error.ReadError.TheVariants as read

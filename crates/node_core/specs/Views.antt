@@ -1,8 +1,6 @@
 -- A call and the world that it goes in, in the words of the step table.
 use Rattle.std.specs.Prelude.{ℕ, List, [], Option, Some, None, if◌then◌else◌}
-use Rattle.store_traits.specs.declared.codec.Codec as codec_trait
 use Rattle.store_traits.specs.declared.ids.CallId.{CallId}
-use Rattle.store_traits.specs.declared.transform.Transform as transform_trait
 use Rattle.folder_disk.specs.declared.folder.Folder as folder_trait
 use Rattle.hist_journal.specs.declared.seen.KindSeen.{KindSeen}
 use Rattle.hist_journal.specs.Folds.{raises_of}

@@ -1,4 +1,4 @@
-use Rattle.std.proofs.Common.{◌≡◌, ◌∙◌, length, refl, sym, ap}
+use Rattle.std.proofs.Common.{◌≡◌, ◌∙◌, length, ap}
 use Rattle.std.proofs.Math.Logic.{∥∥₁_elim, ∥∥₁_map}
 use Rattle.hist_journal.specs.Journal.{JournalSeen}
 use Rattle.shelf.specs.ShelfSeen.{ShelfSeen, shelf_seen}

@@ -1,12 +1,11 @@
 use Rattle.std.proofs.Common.{◌≡◌, Some, refl}
-use Rattle.hist_journal.specs.declared.seen.KindSeen.TheVariants.{Synced}
 use Rattle.hist_journal.specs.Quiet.{pending}
 use Rattle.shelf.specs.Effects.{Keeps}
 use Rattle.shelf.specs.LastRows.{SyncsFolder}
 use Rattle.shelf.specs.ShelfSeen.{shelf_seen}
 use Rattle.shelf.proofs.Bools.{never}
 use Rattle.node_core.proofs.EarlyLemmas.{early_goes_on}
-use Rattle.node_core.proofs.EndLemmas.{kept_fits, not_raised, not_raised_twice}
+use Rattle.node_core.proofs.EndLemmas.{kept_fits, not_raised_twice}
 use Rattle.node_core.proofs.RowLemmas.{adds_then_frees, fails_row, fault_raises, freed_raises, last_row}
 use Rattle.shelf.proofs.GoingOn.{fault_fits}
 use Rattle.node_core.proofs.update_call.UpdateCall.sync_kept.Goals as goal
