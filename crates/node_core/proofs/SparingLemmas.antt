@@ -45,7 +45,7 @@ freed_node_was node other (Some owner) is = was_owner (owner.node.0 == node.0) o
 
 module _ {V T : Type 0} where
   -- entries of one call were added: no test sees them that sees no entry of that call
-  record OwnMore (call : CallId) (list now : List (EntrySeen V T)) : Type 0 where
+  pub record OwnMore (call : CallId) (list now : List (EntrySeen V T)) : Type 0 where
     pub more : List (EntrySeen V T)
     pub added : now ≡ list ++ more
     pub unseen : (p : EntrySeen V T → Bool) → ((kind : KindSeen V T) → p (record { who = call; kind = kind }) ≡ false) → list_any p more ≡ false
@@ -163,6 +163,13 @@ module _ {V T M : Type 0} (r : Rules V T) (s : Store V M) where
 
   turn_own : (t : Turned V T) (gave : Gave) → Turn r s t gave → IsOwn (begin t)
   turn_own t gave it = own_by (is_gone t.call.at) (has_died_by (begin t)) (dies_now (begin t)) (begin t) gave it
+
+  -- a turn adds entries of its own call alone
+  pub turn_adds_own : (t : Turned V T) (gave : Gave) → Turn r s t gave → OwnMore t.call.id t.world.history t.world_after.history
+  turn_adds_own t gave it =
+      let own = turn_own t gave it in
+      let new = own_more t.call.id own.kinds t.world.history in
+      record { more = new.more; added = own.added ∙ new.added; unseen = new.unseen }
 
   -- a turn gives the lock to nobody but its own call
   pub turn_owner : (t : Turned V T) (gave : Gave) → Turn r s t gave → (other : CallId) → t.world_after.owner ≡ Some other → (other ≡ t.call.id → ⊥) → t.world.owner ≡ Some other

@@ -57,3 +57,12 @@ stays_then_frees call old mid new lo lm was is same codec store frees =
       codec = frees.codec ∙ codec;
       store = frees.store ∙ store;
     }
+
+-- a ledger that stayed leaves the shelf as it was, where its folder did
+pub stays_all : {C F V T : Type 0} (old new : ShelfSeen C F V T) (lo ln : LedgerSeen V T) → IsOf lo old → IsOf ln new → ln ≡ lo → new.codec ≡ old.codec → new.folder ≡ old.folder → new.store ≡ old.store → new ≡ old
+stays_all old new lo ln was is same codec folder store =
+    let owner : new.owner ≡ old.owner = sym is.owner ∙ (ap (λ (l : LedgerSeen _ _). l.owner) same ∙ was.owner) in
+    let room : new.room ≡ old.room = sym is.room ∙ (ap (λ (l : LedgerSeen _ _). l.room) same ∙ was.room) in
+    let list : new.list ≡ old.list = sym is.list ∙ (ap (λ (l : LedgerSeen _ _). l.list) same ∙ was.list) in
+    let same_record : record { codec = new.codec; folder = new.folder; store = new.store; list = new.list; owner = new.owner; room = new.room } ≡ old = rw (codec, folder, store, list, owner, room) refl in
+    same_record

@@ -33,6 +33,7 @@ use Rattle.node_core.specs.Reading.{ReadsTruly}
 use Rattle.node_core.specs.Ready.{Equipped, Ready, rules_seen}
 use Rattle.node_core.specs.Step.{MayStep, ShowsAnswer, StepsFall, TurnFrom}
 use Rattle.node_core.specs.Steps.{RowFrom, StepEquips}
+use Rattle.node_core.specs.StepsLeft.{steps_left}
 use Rattle.node_core.specs.Views.{turned, world_seen}
 use Rattle.node_core.proofs.Acknowledging.{update_is_acknowledged}
 use Rattle.node_core.proofs.CauseOfAnswers.{error_has_cause}
@@ -61,6 +62,12 @@ once : {V T : Type 0} (initialised : Bool) (at : At V T) → is_first at ≡ tru
 once true at first is = refl
 once false (First edit) first is = never is
 once false other first is = never first
+
+-- and a call that waits at it has as many turns left
+same_left : {V T : Type 0} (limit : ℕ) (initialised : Bool) (at : At V T) → is_first at ≡ true → steps_left limit (initialised || is_finishing at) at ≡ steps_left limit initialised at
+same_left limit true (First edit) first = refl
+same_left limit false (First edit) first = refl
+same_left limit initialised other first = never first
 
 module _ {C F V T : Type 0} (c : codec_trait.Ghosts C V) (t : transform_trait.Ghosts T V) (f : folder_trait.Ghosts F) where
   -- a first turn needs nothing of the folder
@@ -134,7 +141,11 @@ module _ {C F V T : Type 0} (c : codec_trait.Ghosts C V) (t : transform_trait.Gh
 
   falls_by : (gave : Progress (Result ℕ UpdateError)) → TurnFrom c t f origin at old gave (begun origin (length old.list)) at_after new → StepsFall old.store.limits.file initialised at gave (initialised || is_finishing at) at_after
   falls_by Moved it = turn_steps (rules_seen c t f old) old.store initialised (turned f origin at old (begun origin (length old.list)) at_after new) it the_ready.knows was_ready
-  falls_by Blocked it = tt
+  falls_by Blocked it =
+      let this = turned f origin at old (begun origin (length old.list)) at_after new in
+      let waits = waits_by (rules_seen c t f old) old.store (is_gone at) (has_died_by (begin this)) (dies_now (begin this)) (begin this) it in
+      let first : is_first at ≡ true = (turn_waits (rules_seen c t f old) old.store this it).2 in
+      rw (ap (λ (call : Call V T). call.at) waits.call) (same_left old.store.limits.file initialised at first)
   falls_by (Ended answer) it = tt
 
   ready_by : (gave : Progress (Result ℕ UpdateError)) → TurnFrom c t f origin at old gave (begun origin (length old.list)) at_after new → (initialised || is_finishing at) ≡ true → is_first at_after ≡ true → is_ready origin.call.node new.list ≡ true

@@ -8,7 +8,7 @@ use Rattle.store_traits.specs.declared.ids.CallId.{CallId}
 use Rattle.hist_journal.specs.declared.seen.EntrySeen.{EntrySeen}
 use Rattle.hist_journal.specs.Nodes.{is_ready}
 use Rattle.shelf.specs.declared.progress.Progress.{Progress}
-use Rattle.shelf.specs.declared.progress.Progress.TheVariants.{Moved, Ended}
+use Rattle.shelf.specs.declared.progress.Progress.TheVariants.{Moved, Blocked, Ended}
 use Rattle.shelf.specs.declared.store.Store.{Store}
 use Rattle.shelf.specs.Acknowledged.{IsUpdated}
 use Rattle.shelf.specs.Calls.{At, is_first}
@@ -45,10 +45,16 @@ module _ {C F V T : Type 0} (c : codec_trait.Ghosts C V) (t : transform_trait.Gh
   abbrev pub TurnFrom : Origin → At V T → ShelfSeen C F V T → Progress (Result ℕ UpdateError) → Origin → At V T → ShelfSeen C F V T → Type 0
   TurnFrom origin at old gave origin_after at_after new = Turn (rules_seen c t f old) old.store (turned f origin at old origin_after at_after new) gave
 
--- the call goes on, with fewer steps left
+-- the call goes on, with fewer steps left; or as many, where it is blocked
 abbrev pub StepsFall : {V T : Type 0} → ℕ → Bool → At V T → Progress (Result ℕ UpdateError) → Bool → At V T → Type 0
 StepsFall limit initialised at Moved initialised_after at_after = steps_left limit initialised_after at_after < steps_left limit initialised at
+StepsFall limit initialised at Blocked initialised_after at_after = steps_left limit initialised_after at_after ≡ steps_left limit initialised at
 StepsFall limit initialised at other initialised_after at_after = Unit {0}
+
+-- a blocked call leaves all of the shelf as it was, the rooms too
+abbrev pub StaysIfBlocked : {C F V T : Type 0} → Progress (Result ℕ UpdateError) → ShelfSeen C F V T → ShelfSeen C F V T → Type 0
+StaysIfBlocked Blocked old new = new ≡ old
+StaysIfBlocked other old new = Unit {0}
 
 -- What the history shows of a call that has ended: that the update was acknowledged, or why not. `shown` is an edition
 -- that was reached before

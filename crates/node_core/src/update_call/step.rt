@@ -1,4 +1,4 @@
-ghost use Rattle.std.specs.Prelude.{◌≡◌, true, false, Some, None, unwrap_or, IsTrue};
+ghost use Rattle.std.specs.Prelude.{◌≡◌, ◌||◌, true, false, Some, None, unwrap_or, IsTrue};
 ghost use Rattle.hist_journal.specs.Folds.{edition_of, raises_of};
 ghost use Rattle.hist_journal.specs.Nodes.{is_ready};
 ghost use Rattle.hist_journal.specs.Quiet.{pending};
@@ -8,8 +8,9 @@ ghost use Rattle.shelf.specs.Calls.{First, is_first, is_gone};
 ghost use Rattle.shelf.specs.Kept.{KeptMain};
 ghost use Rattle.shelf.specs.ShelfSeen.{shelf_seen};
 ghost use Rattle.node_core.specs.Own.{IsFor};
+ghost use Rattle.node_core.specs.Phases.{is_finishing};
 ghost use Rattle.node_core.specs.Ready.{Ready, rules_seen};
-ghost use Rattle.node_core.specs.Step.{MayStep, ShowsAnswer, StepsFall, TurnFrom};
+ghost use Rattle.node_core.specs.Step.{MayStep, ShowsAnswer, StaysIfBlocked, StepsFall, TurnFrom};
 ghost use Rattle.node_core.specs.Views.{state_seen};
 
 use super::{State, UpdateCall};
@@ -47,10 +48,15 @@ impl<P: Parts> UpdateCall<P> {
         // It is the turn of the step table.
         ensures turn { TurnFrom P.C.Codec P.T.Transform P.F.Folder self.old.origin (state_seen self.old.state) (shelf_seen shelf.old) result self.new.origin (state_seen self.new.state) (shelf_seen shelf.new) }
         ensures call { self.new.origin.call ≡ self.old.origin.call }
+        ensures initialised { self.new.initialised ≡ (self.old.initialised || is_finishing (state_seen self.old.state)) }
         // A call that goes on may step again, and has fewer steps left.
         ensures ready { is_gone (state_seen self.new.state) ≡ false → Ready P.C.Codec P.T.Transform P.F.Folder self.new.origin (state_seen self.new.state) (shelf_seen shelf.new) }
         ensures readiness { self.new.initialised ≡ true → is_first (state_seen self.new.state) ≡ true → is_ready self.new.origin.call.node (shelf_seen shelf.new).list ≡ true }
         ensures falls { StepsFall (shelf_seen shelf.old).store.limits.file self.old.initialised (state_seen self.old.state) result self.new.initialised (state_seen self.new.state) }
+        // The store is the same, and a blocked call leaves all of the shelf as it was.
+        ensures store { (shelf_seen shelf.new).store ≡ (shelf_seen shelf.old).store }
+        ensures codec { shelf.new.codec ≡ shelf.old.codec }
+        ensures waits { StaysIfBlocked result (shelf_seen shelf.old) (shelf_seen shelf.new) }
         // The history stays lawful, and main what it makes of it; no raise is open but that of the lock's owner.
         ensures kept { IsTrue P.F.told → ∥ KeptMain (rules_seen P.C.Codec P.T.Transform P.F.Folder (shelf_seen shelf.new)) (P.C.is_value shelf.new.codec) (shelf_seen shelf.new).store (P.F.contents shelf.new.folder) (shelf_seen shelf.new).list ∥₁ }
         ensures quiet { (call : CallId) → pending (shelf_seen shelf.new).list ≡ Some call → (shelf_seen shelf.new).owner ≡ Some call }

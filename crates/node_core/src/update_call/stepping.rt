@@ -7,6 +7,7 @@ ghost use Rattle.shelf.specs.Calls.{is_gone};
 ghost use Rattle.shelf.specs.ShelfSeen.{shelf_seen};
 ghost use Rattle.node_core.specs.Phases.{is_finishing};
 ghost use Rattle.node_core.specs.Ready.{Ready};
+ghost use Rattle.node_core.specs.Step.{StaysIfBlocked};
 ghost use Rattle.node_core.specs.Steps.{RowFrom, StepEquips, is_last};
 ghost use Rattle.node_core.specs.Views.{init_seen, state_seen, write_seen};
 
@@ -39,6 +40,7 @@ impl<P: Parts> UpdateCall<P> {
         ensures row { RowFrom P.C.Codec P.T.Transform P.F.Folder self.old.origin (state_seen self.old.state) (shelf_seen shelf.old) result (state_seen self.new.state) (shelf_seen shelf.new) }
         ensures store { (shelf_seen shelf.new).store ≡ (shelf_seen shelf.old).store }
         ensures codec { shelf.new.codec ≡ shelf.old.codec }
+        ensures waits { StaysIfBlocked result (shelf_seen shelf.old) (shelf_seen shelf.new) }
         ensures equips { StepEquips P.C.Codec P.T.Transform P.F.Folder result (state_seen self.new.state) (shelf_seen shelf.new) }
         ensures number { W.number word.new ≡ raises_of (shelf_seen shelf.new).list }
         ensures made { W.made word.new ≡ W.made word.old }
@@ -68,6 +70,7 @@ impl<P: Parts> UpdateCall<P> {
         ensures row { RowFrom P.C.Codec P.T.Transform P.F.Folder self.old.origin (at.First edit) (shelf_seen shelf.old) result (state_seen self.new.state) (shelf_seen shelf.new) }
         ensures store { (shelf_seen shelf.new).store ≡ (shelf_seen shelf.old).store }
         ensures codec { shelf.new.codec ≡ shelf.old.codec }
+        ensures waits { StaysIfBlocked result (shelf_seen shelf.old) (shelf_seen shelf.new) }
         ensures raises { raises_of (shelf_seen shelf.new).list ≡ raises_of (shelf_seen shelf.old).list }
         ensures origin { self.new.origin ≡ self.old.origin }
         ensures initialised { self.new.initialised ≡ self.old.initialised }
@@ -114,6 +117,7 @@ impl<P: Parts> UpdateCall<P> {
         ensures row { RowFrom P.C.Codec P.T.Transform P.F.Folder self.old.origin (init_seen edit init) (shelf_seen shelf.old) result (state_seen self.new.state) (shelf_seen shelf.new) }
         ensures store { (shelf_seen shelf.new).store ≡ (shelf_seen shelf.old).store }
         ensures codec { shelf.new.codec ≡ shelf.old.codec }
+        ensures waits { StaysIfBlocked result (shelf_seen shelf.old) (shelf_seen shelf.new) }
         ensures raises { raises_of (shelf_seen shelf.new).list ≡ raises_of (shelf_seen shelf.old).list }
         ensures origin { self.new.origin ≡ self.old.origin }
         ensures initialised { self.new.initialised ≡ (self.old.initialised || is_last init) }
@@ -145,6 +149,7 @@ impl<P: Parts> UpdateCall<P> {
         ensures row { RowFrom P.C.Codec P.T.Transform P.F.Folder self.old.origin (at.Reading edit) (shelf_seen shelf.old) result (state_seen self.new.state) (shelf_seen shelf.new) }
         ensures store { (shelf_seen shelf.new).store ≡ (shelf_seen shelf.old).store }
         ensures codec { shelf.new.codec ≡ shelf.old.codec }
+        ensures waits { StaysIfBlocked result (shelf_seen shelf.old) (shelf_seen shelf.new) }
         ensures equips { StepEquips P.C.Codec P.T.Transform P.F.Folder result (state_seen self.new.state) (shelf_seen shelf.new) }
         ensures raises { raises_of (shelf_seen shelf.new).list ≡ raises_of (shelf_seen shelf.old).list }
         ensures origin { self.new.origin ≡ self.old.origin }
@@ -190,6 +195,7 @@ impl<P: Parts> UpdateCall<P> {
         ensures row { RowFrom P.C.Codec P.T.Transform P.F.Folder self.old.origin (write_seen write) (shelf_seen shelf.old) result (state_seen self.new.state) (shelf_seen shelf.new) }
         ensures store { (shelf_seen shelf.new).store ≡ (shelf_seen shelf.old).store }
         ensures codec { shelf.new.codec ≡ shelf.old.codec }
+        ensures waits { StaysIfBlocked result (shelf_seen shelf.old) (shelf_seen shelf.new) }
         ensures equips { StepEquips P.C.Codec P.T.Transform P.F.Folder result (state_seen self.new.state) (shelf_seen shelf.new) }
         ensures number { W.number word.new ≡ raises_of (shelf_seen shelf.new).list }
         ensures made { W.made word.new ≡ W.made word.old }
@@ -221,6 +227,7 @@ impl<P: Parts> UpdateCall<P> {
         ensures row { RowFrom P.C.Codec P.T.Transform P.F.Folder self.old.origin (at.SyncingFolder (at.Changed place)) (shelf_seen shelf.old) result (state_seen self.new.state) (shelf_seen shelf.new) }
         ensures store { (shelf_seen shelf.new).store ≡ (shelf_seen shelf.old).store }
         ensures codec { shelf.new.codec ≡ shelf.old.codec }
+        ensures waits { StaysIfBlocked result (shelf_seen shelf.old) (shelf_seen shelf.new) }
         ensures raises { raises_of (shelf_seen shelf.new).list ≡ raises_of (shelf_seen shelf.old).list }
         ensures origin { self.new.origin ≡ self.old.origin }
         ensures initialised { self.new.initialised ≡ self.old.initialised }
@@ -242,6 +249,7 @@ impl<P: Parts> UpdateCall<P> {
         ensures row { RowFrom P.C.Codec P.T.Transform P.F.Folder self.old.origin (at.SyncingFolder (at.Kept edit)) (shelf_seen shelf.old) result (state_seen self.new.state) (shelf_seen shelf.new) }
         ensures store { (shelf_seen shelf.new).store ≡ (shelf_seen shelf.old).store }
         ensures codec { shelf.new.codec ≡ shelf.old.codec }
+        ensures waits { StaysIfBlocked result (shelf_seen shelf.old) (shelf_seen shelf.new) }
         ensures raises { raises_of (shelf_seen shelf.new).list ≡ raises_of (shelf_seen shelf.old).list }
         ensures origin { self.new.origin ≡ self.old.origin }
         ensures initialised { self.new.initialised ≡ self.old.initialised }

@@ -1,4 +1,4 @@
-use Rattle.std.proofs.Common.{◌≡◌, ◌∙◌, length, ap}
+use Rattle.std.proofs.Common.{◌≡◌, ◌∙◌, length, ap, subst}
 use Rattle.std.proofs.Math.Logic.{∥∥₁_elim, ∥∥₁_map}
 use Rattle.hist_journal.specs.Journal.{JournalSeen}
 use Rattle.shelf.specs.ShelfSeen.{ShelfSeen, shelf_seen}
@@ -7,6 +7,7 @@ use Rattle.shelf.proofs.DeathLemmas.{has_not_died}
 use Rattle.shelf.proofs.ReadingLemmas.{value_is}
 use Rattle.node_core.specs.Reading.{ReadsTruly}
 use Rattle.node_core.specs.Ready.{rules_seen}
+use Rattle.node_core.specs.Step.{StaysIfBlocked}
 use Rattle.node_core.specs.Views.{state_seen, world_seen}
 use Rattle.node_core.proofs.ReadyLemmas.{ready_now, writes_either}
 use Rattle.node_core.proofs.TurnLemmas.{StepGives, begun, ready_begun, row_here, step_gives}
@@ -63,3 +64,12 @@ returns-clause-kept g c = λ told. ∥∥₁_map c.work.new.shelf.kept (λ kept.
 
 pub returns-clause-shown : goal.returns-clause-shown
 returns-clause-shown g c = (gives g c).shown
+
+pub returns-clause-store : goal.returns-clause-store
+returns-clause-store g c = c.work.ensures.store ∙ ap (λ (s : ShelfSeen _ _ _ _). s.store) c.begin.ensures.same
+
+pub returns-clause-codec : goal.returns-clause-codec
+returns-clause-codec g c = c.work.ensures.codec ∙ ap (λ (s : ShelfSeen _ _ _ _). s.codec) c.begin.ensures.same
+
+pub returns-clause-waits : goal.returns-clause-waits
+returns-clause-waits g c = subst (λ (s : ShelfSeen _ _ _ _). StaysIfBlocked c.work.result s (shelf_seen c.work.new.shelf)) c.begin.ensures.same c.work.ensures.waits

@@ -4,7 +4,7 @@ use Rattle.shelf.specs.ShelfSeen.{shelf_seen}
 use Rattle.std.proofs.Math.Logic.{∥∥₁_elim}
 use Rattle.std.proofs.Math.Nat.{ℕ_set}
 use Rattle.node_core.proofs.RowLemmas.{stops_row}
-use Rattle.node_core.proofs.TakeLemmas.{IsOf, full_row, open_row, stays_then_frees, takes_row}
+use Rattle.node_core.proofs.TakeLemmas.{IsOf, full_row, open_row, stays_all, stays_then_frees, takes_row}
 use Rattle.node_core.proofs.update_call.UpdateCall.take.Goals as goal
 
 pub returns-in-Init-clause-row : goal.returns-in-Init-clause-row
@@ -46,3 +46,10 @@ returns-in-NoMemory-clause-row g c =
       open_row g.P.F.Folder _ c.args.self.now.origin c.args.edit (shelf_seen c.args.shelf.now) (shelf_seen c.free-in-NoMemory.new.self) (ledger_seen c.args.shelf.now.ledger) (ledger_seen c.take.new.self.ledger) was weighs _ taken.row.1,
       stops_row g.P.F.Folder c.args.self.now.origin _ _ _ frees (c.free-in-NoMemory.ensures.folder ∙ taken.folder),
     )
+
+pub returns-in-Blocked-clause-waits : goal.returns-in-Blocked-clause-waits
+returns-in-Blocked-clause-waits g c =
+    let was : IsOf (ledger_seen c.args.shelf.now.ledger) (shelf_seen c.args.shelf.now) = record { list = refl; owner = refl; room = refl; bounds = refl } in
+    let is : IsOf (ledger_seen c.take.new.self.ledger) (shelf_seen c.take.new.self) = record { list = refl; owner = refl; room = refl; bounds = refl } in
+    let taken = c.in-Blocked.ensures in
+    stays_all (shelf_seen c.args.shelf.now) (shelf_seen c.take.new.self) (ledger_seen c.args.shelf.now.ledger) (ledger_seen c.take.new.self.ledger) was is taken.row.1 taken.codec taken.folder taken.store
