@@ -8,11 +8,13 @@ pub mod EndLemmas
 pub mod EquippedLemmas
 pub mod FailedCalls
 pub mod ForLemmas
+pub mod GoingLemmas
 pub mod KeepingLemmas
 pub mod KeepingOn
 pub mod KeepingReads
 pub mod KeepingWrites
 pub mod LivingTurns
+pub mod MovingLemmas
 pub mod NewCalls
 pub mod ReadLemmas
 pub mod ReadinessLemmas
