@@ -1,0 +1,5 @@
+pub mod Order
+pub mod Run
+pub mod RunExamples
+pub mod Scene
+pub mod Step
