@@ -1,5 +1,5 @@
 -- One step of a client: the call that it is at takes a turn.
-use Rattle.std.specs.Prelude.{◌≡◌, ◌⊎◌, ℕ, ◌+◌, Bool, false, ◌||◌, List, [], ◌∷◌, ◌++◌, Option, Some, None, is_some, slice_get, slice_set, Result, Err}
+use Rattle.std.specs.Prelude.{◌≡◌, ◌⊎◌, ℕ, ◌+◌, Bool, false, ◌||◌, [], ◌∷◌, ◌++◌, Option, Some, None, is_some, slice_get, slice_set, Result, Err}
 use Rattle.store_traits.specs.declared.update_error.UpdateError.{UpdateError}
 use Rattle.store_traits.specs.declared.update_error.UpdateError.TheVariants.{NoMemory}
 use Rattle.shelf.specs.Calls.{Call, First}
@@ -9,7 +9,7 @@ use Rattle.shelf.specs.declared.store.Store.{Store}
 use Rattle.shelf.specs.Turn.{Turn}
 use Rattle.shelf.specs.World.{Rules, World}
 use Rattle.node_core.specs.Phases.{is_finishing}
-use Rattle.replay_run.specs.Scene.{Answered, Client, Scene, call_of}
+use Rattle.replay_run.specs.Scene.{Client, Scene, call_of}
 
 module _ {V T : Type 0} where
   -- a call before its first turn
