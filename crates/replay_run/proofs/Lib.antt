@@ -1,1 +1,2 @@
 pub mod PlayedRuns
+pub mod SetLemmas

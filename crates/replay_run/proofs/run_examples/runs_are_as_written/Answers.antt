@@ -4,6 +4,10 @@ use Rattle.hist_journal.specs.Nodes.{is_dead, is_ready, last_mark}
 use Rattle.shelf.specs.Deaths.{last_death, used_up}
 use Rattle.shelf.specs.ExampleStore.{empty, holds_one, n1, n2}
 use Rattle.replay_run.specs.RunExamples as runs
+use Rattle.replay_run.specs.ScriptRun.{Runs}
+use Rattle.replay_run.specs.SceneKeeps.{SceneKeeps}
+use Rattle.replay_run.specs.WorkLeft.{work_left}
+use Rattle.replay_run.proofs.SetLemmas.{set_twice}
 use Rattle.replay_run.proofs.PlayedRuns.{IsRun-computed}
 use Rattle.replay_run.proofs.run_examples.runs_are_as_written.Goals as goal
 
