@@ -1,3 +1,4 @@
+pub mod AnswerLemmas
 pub mod OwnTurns
 pub mod PlayedRuns
 pub mod SetLemmas

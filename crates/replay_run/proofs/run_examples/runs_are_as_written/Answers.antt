@@ -8,6 +8,7 @@ use Rattle.replay_run.specs.ScriptRun.{Runs}
 use Rattle.replay_run.specs.SceneKeeps.{SceneKeeps}
 use Rattle.replay_run.specs.WorkLeft.{work_left}
 use Rattle.replay_run.proofs.SetLemmas.{set_twice}
+use Rattle.replay_run.proofs.AnswerLemmas.{answers_more}
 use Rattle.replay_run.proofs.OwnTurns.{turn_adds_own}
 use Rattle.replay_run.proofs.PlayedRuns.{IsRun-computed}
 use Rattle.replay_run.proofs.run_examples.runs_are_as_written.Goals as goal
