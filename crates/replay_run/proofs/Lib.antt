@@ -1,4 +1,6 @@
 pub mod AnswerLemmas
+pub mod BeginKeeps
 pub mod OwnTurns
 pub mod PlayedRuns
+pub mod ReplacedClient
 pub mod SetLemmas

@@ -26,7 +26,7 @@ use Rattle.shelf.specs.Effects.{Does, DoesLast, Fails, Stops, freed, is_ready_no
 use Rattle.shelf.specs.Endings.{synced_kinds}
 use Rattle.shelf.specs.Entries.{is_death}
 use Rattle.shelf.specs.LastRows.{kept_edit}
-use Rattle.shelf.specs.LockRow.{LockRow}
+use Rattle.shelf.specs.LockRow.{Waits}
 use Rattle.shelf.specs.ReadRows.{ReadRow, ToMigrations}
 use Rattle.shelf.specs.Turn.{Row, Turn, TurnBy, begin, dies_now, has_died_by}
 use Rattle.shelf.specs.World.{Rules, World, Turned}
@@ -38,6 +38,7 @@ use Rattle.shelf.proofs.StepLemmas.{ended_leaves, itself}
 use Rattle.node_core.specs.Knows.{Knows}
 use Rattle.node_core.specs.Phases.{is_finishing, is_holding}
 use Rattle.node_core.specs.Plans.{PlanAt}
+use Rattle.node_core.proofs.KeepingLemmas.{waits_by}
 use Rattle.replay_run.specs.ShownByAnswers.{printed_by}
 
 either_mark : (later first : Option Bool) → unwrap_or later true ≡ true → unwrap_or first true ≡ true → unwrap_or (option_or later first) true ≡ true
@@ -61,10 +62,10 @@ lock_holds V true edit = refl
 lock_holds V false edit = refl
 
 module _ {V T : Type 0} where
-  abbrev dies : EntrySeen V T → Bool
+  abbrev pub dies : EntrySeen V T → Bool
   dies e = is_death e.kind
 
-  abbrev entries_of : CallId → List (KindSeen V T) → List (EntrySeen V T)
+  abbrev pub entries_of : CallId → List (KindSeen V T) → List (EntrySeen V T)
   entries_of call kinds = map (λ kind. record { who = call; kind = kind }) kinds
 
   all_added : (call : CallId) (kinds : List (KindSeen V T)) (list : List (EntrySeen V T)) → with_entries call kinds list ≡ list ++ entries_of call kinds
@@ -229,6 +230,20 @@ module _ {V T M : Type 0} (r : Rules V T) (s : Store V M) where
   row_goes (SyncingFolder ending) t it = absurd it
   row_goes Gone t it = absurd it
 
+  row_id : (at : At V T) (t : Turned V T) → Row r s at t Moved → t.call_after.id ≡ t.call.id
+  row_id (First edit) t it = rw it.call refl
+  row_id (ReadingFirst edit) t it = rw it.then.call refl
+  row_id (Migrating edit value) t it = rw it.1.call refl
+  row_id (Finishing edit) t it = rw it.call refl
+  row_id (Reading edit) t it = elim it.then [ inl writes ↦ rw writes.goes_on.call refl | inr keeps ↦ rw keeps.goes_on.call refl ]
+  row_id (Raising plan) t it = rw it.call refl
+  row_id (Creating plan) t it = rw it.call refl
+  row_id (Appending plan) t it = rw it.call refl
+  row_id (SyncingScratch plan) t it = rw it.call refl
+  row_id (Renaming plan) t it = rw it.call refl
+  row_id (SyncingFolder ending) t it = absurd it
+  row_id Gone t it = absurd it
+
   row_readies : (at : At V T) (t : Turned V T) → Row r s at t Moved → is_finishing at ≡ true → is_ready t.call.id.node t.world_after.history ≡ true
   row_readies (Finishing edit) t it finishing =
       let same : is_node t.call.id.node t.call.id.node ≡ true = eq-eqb t.call.id.node.0 t.call.id.node.0 refl in
@@ -265,9 +280,16 @@ module _ {V T M : Type 0} (r : Rules V T) (s : Store V M) where
     pub moves_on : Turn r s t Moved → is_gone t.call_after.at ≡ false
     moves_on it = elim (row_goes t.call.at (begin t) (turn_row t alive none Moved it).1) [ inl holds ↦ holding_goes_on t.call_after.at holds | inr first ↦ first_goes_on t.call_after.at first.0 ]
 
+    pub moved_is_same : Turn r s t Moved → t.call_after.id ≡ t.call.id
+    moved_is_same it = row_id t.call.at (begin t) (turn_row t alive none Moved it).1
+
+    -- what waits is at its first step, as it was
+    pub waits_same : Turn r s t Blocked → Waits r s (begin t)
+    waits_same it = waits_by r s (is_gone t.call.at) (has_died_by (begin t)) (dies_now (begin t)) (begin t) it
+
     -- where the call owns the lock behind it, it holds it
-    pub moved_holds : Turn r s t Moved → Knows r s t.world t.call → t.world_after.owner ≡ Some t.call.id → (t.world.owner ≡ Some t.call.id → is_holding t.call.at ≡ true) → is_holding t.call_after.at ≡ true
-    moved_holds it knows owns held =
+    pub moved_holds : Turn r s t Moved → t.world_after.owner ≡ Some t.call.id → is_holding t.call_after.at ≡ true
+    moved_holds it owns =
         elim (row_goes t.call.at (begin t) (turn_row t alive none Moved it).1) [
           | inl holds ↦ holds
           | inr first ↦ absurd (not_freed_by t.call.id t.world.owner (sym first.1 ∙ owns))

@@ -8,6 +8,8 @@ use Rattle.replay_run.specs.ScriptRun.{Runs}
 use Rattle.replay_run.specs.SceneKeeps.{SceneKeeps}
 use Rattle.replay_run.specs.WorkLeft.{work_left}
 use Rattle.replay_run.proofs.SetLemmas.{set_twice}
+use Rattle.replay_run.proofs.BeginKeeps as begin
+use Rattle.replay_run.proofs.ReplacedClient.{same_call}
 use Rattle.replay_run.proofs.AnswerLemmas.{answers_more}
 use Rattle.replay_run.proofs.OwnTurns.{turn_adds_own}
 use Rattle.replay_run.proofs.PlayedRuns.{IsRun-computed}
