@@ -4,3 +4,4 @@ pub mod OwnTurns
 pub mod PlayedRuns
 pub mod ReplacedClient
 pub mod SetLemmas
+pub mod TurnKeeps
