@@ -4,4 +4,5 @@ pub mod OwnTurns
 pub mod PlayedRuns
 pub mod ReplacedClient
 pub mod SetLemmas
+pub mod StepKeeps
 pub mod TurnKeeps
