@@ -6,3 +6,4 @@ pub mod ReplacedClient
 pub mod SetLemmas
 pub mod StepKeeps
 pub mod TurnKeeps
+pub mod WorkLemmas
