@@ -107,6 +107,8 @@ module _ {V T M : Type 0} (r : Rules V T) (s : Store V M) where
           owner = IfSome_then scene.world.owner keeps.owner owns;
           alive = keeps.alive;
           unplanned = keeps.unplanned;
+          unfailed = keeps.unfailed;
+          smooth = keeps.smooth;
         }
 
     -- an owner stays one where the client has the same call, or had none

@@ -1,8 +1,9 @@
 -- What a turn of a call leaves where no node has died: entries of its own, and the lock with it, free or as it was.
-use Rattle.std.proofs.Common.{◌≡◌, ◌∙◌, ◌⊎◌, inl, inr, ◌+◌, ◌==◌, ℕ, Bool, true, false, ◌&&◌, ◌||◌, List, [], ◌∷◌, ◌++◌, map, drop, length, Option, Some, None, IfSome, unwrap_or, append_assoc, append-nil, refl, sym, ap, if◌then◌else◌, Result, Ok, Err}
+use Rattle.std.proofs.Common.{◌≡◌, ◌∙◌, ◌⊎◌, inl, inr, ◌+◌, ◌==◌, ℕ, Bool, true, false, ◌&&◌, ◌||◌, List, [], ◌∷◌, ◌++◌, map, drop, length, Option, Some, None, IfSome, unwrap_or, append_assoc, append-nil, refl, sym, ap, arith, if◌then◌else◌, Result, Ok, Err}
 use Rattle.std.specs.List.{list_any}
 use Rattle.std.specs.Option.{option_or}
 use Rattle.std.proofs.lemmas.Bool.{eq-eqb}
+use Rattle.store_traits.specs.Faults.{Rose}
 use Rattle.store_traits.specs.declared.ids.CallId.{CallId}
 use Rattle.store_traits.specs.declared.ids.NodeId.{NodeId}
 use Rattle.store_traits.specs.declared.update_error.UpdateError.{UpdateError}
@@ -39,6 +40,7 @@ use Rattle.node_core.specs.Knows.{Knows}
 use Rattle.node_core.specs.Phases.{is_finishing, is_holding}
 use Rattle.node_core.specs.Plans.{PlanAt}
 use Rattle.node_core.proofs.KeepingLemmas.{waits_by}
+use Rattle.replay_run.specs.SceneKeeps.{is_rough}
 use Rattle.replay_run.specs.ShownByAnswers.{printed_by}
 
 either_mark : (later first : Option Bool) → unwrap_or later true ≡ true → unwrap_or first true ≡ true → unwrap_or (option_or later first) true ≡ true
@@ -56,6 +58,15 @@ kept_mark (Some b) first is was = is
 synced_alive : (V : Type 0) {T : Type 0} (call : CallId) (kept : Option T) → list_any (λ (e : EntrySeen V T). is_death e.kind) (map (λ kind. record { who = call; kind = kind }) (synced_kinds kept)) ≡ false
 synced_alive V call None = refl
 synced_alive V call (Some edit) = refl
+
+synced_smooth : (V : Type 0) {T : Type 0} (call : CallId) (kept : Option T) → list_any (λ (e : EntrySeen V T). is_rough e.kind) (map (λ kind. record { who = call; kind = kind }) (synced_kinds kept)) ≡ false
+synced_smooth V call None = refl
+synced_smooth V call (Some edit) = refl
+
+-- a count that is 0 has not risen
+not_risen : (before now : ℕ) → now ≡ 0 → Rose before now → ⊥
+not_risen before now none (inl less) = omega (arith, none, less)
+not_risen before now none (inr most) = omega (arith, none, most)
 
 lock_holds : (V : Type 0) {T : Type 0} (b : Bool) (edit : T) → is_holding {V = V} (if b then Reading edit else ReadingFirst edit) ≡ true
 lock_holds V true edit = refl
@@ -77,37 +88,42 @@ module _ {V T : Type 0} where
   none_passes call [] p none = refl
   none_passes call (kind ∷ kinds) p none = rw (none kind) (none_passes call kinds p none)
 
-  -- the turn adds these entries of its call, none of them a Death, and plans no death
+  abbrev pub stumbles : EntrySeen V T → Bool
+  stumbles e = is_rough e.kind
+
+  -- the turn adds these entries of its call, none of them a Death, and plans no death; where no call of the folder fails, they are those of an update that goes well
   pub record AddsOwn (t : Turned V T) : Type 0 where
     pub kinds : List (KindSeen V T)
     pub added : t.world_after.history ≡ t.world.history ++ entries_of t.call.id kinds
     pub alive : list_any dies (entries_of t.call.id kinds) ≡ false
     pub deaths : t.world_after.deaths ≡ t.world.deaths
+    pub smooth : t.world_after.faults ≡ 0 → list_any stumbles (entries_of t.call.id kinds) ≡ false
 
   module _ (t : Turned V T) where
-    own_with : (kinds : List (KindSeen V T)) (now : World V T) → list_any dies (entries_of t.call.id kinds) ≡ false → t.world_after ≡ now → now.history ≡ with_entries t.call.id kinds t.world.history → now.deaths ≡ t.world.deaths → AddsOwn t
-    own_with kinds now alive is added deaths =
+    own_with : (kinds : List (KindSeen V T)) (now : World V T) → list_any dies (entries_of t.call.id kinds) ≡ false → (t.world_after.faults ≡ 0 → list_any stumbles (entries_of t.call.id kinds) ≡ false) → t.world_after ≡ now → now.history ≡ with_entries t.call.id kinds t.world.history → now.deaths ≡ t.world.deaths → AddsOwn t
+    own_with kinds now alive smooth is added deaths =
         record {
           kinds = kinds;
           added = ap (λ (w : World V T). w.history) is ∙ (added ∙ all_added t.call.id kinds t.world.history);
           alive = alive;
           deaths = ap (λ (w : World V T). w.deaths) is ∙ deaths;
+          smooth = smooth;
         }
 
-    does_own : {Makes : Contents → Contents → Type 0} {kinds : List (KindSeen V T)} {at : At V T} → list_any dies (entries_of t.call.id kinds) ≡ false → Does t Makes kinds at → AddsOwn t
-    does_own {kinds = kinds} alive it = own_with kinds _ alive it.world refl refl
+    does_own : {Makes : Contents → Contents → Type 0} {kinds : List (KindSeen V T)} {at : At V T} → list_any dies (entries_of t.call.id kinds) ≡ false → list_any stumbles (entries_of t.call.id kinds) ≡ false → Does t Makes kinds at → AddsOwn t
+    does_own {kinds = kinds} alive smooth it = own_with kinds _ alive (λ unfailed. smooth) it.world refl refl
 
-    last_own : {Makes : Contents → Contents → Type 0} {kinds : List (KindSeen V T)} → list_any dies (entries_of t.call.id kinds) ≡ false → DoesLast t Makes kinds → AddsOwn t
-    last_own {kinds = kinds} alive it = own_with kinds _ alive it.world refl refl
+    last_own : {Makes : Contents → Contents → Type 0} {kinds : List (KindSeen V T)} → list_any dies (entries_of t.call.id kinds) ≡ false → list_any stumbles (entries_of t.call.id kinds) ≡ false → DoesLast t Makes kinds → AddsOwn t
+    last_own {kinds = kinds} alive smooth it = own_with kinds _ alive (λ unfailed. smooth) it.world refl refl
 
     fails_own : {Part : Contents → Contents → Type 0} → Fails t Part → AddsOwn t
-    fails_own it = own_with (Fault Folder t.world_after.faults ∷ []) _ refl it.world refl refl
+    fails_own it = own_with (Fault Folder t.world_after.faults ∷ []) _ refl (λ unfailed. absurd (not_risen t.world.faults t.world_after.faults unfailed it.count)) it.world refl refl
 
     stops_own : Stops t → AddsOwn t
-    stops_own it = own_with [] _ refl it.world refl refl
+    stops_own it = own_with [] _ refl (λ unfailed. refl) it.world refl refl
 
     same_own : t.world_after ≡ t.world → AddsOwn t
-    same_own is = own_with [] t.world refl is refl refl
+    same_own is = own_with [] t.world refl (λ unfailed. refl) is refl refl
 
   -- the call owns the lock still, or is at its first step and has freed it
   abbrev GoesOn : Turned V T → Type 0
@@ -161,41 +177,41 @@ module _ {V T M : Type 0} (r : Rules V T) (s : Store V M) where
 
   read_own : (Then : V → Gave → Type 0) (t : Turned V T) (gave : Gave) → ((value : V) (gave : Gave) → Then value gave → AddsOwn t) → ReadRow r s t Then gave → AddsOwn t
   read_own Then t (Ended (Err (error.StorageFault place))) rest it = fails_own t it.1
-  read_own Then t (Ended (Err (error.FileTooLong len))) rest it = last_own t refl it.1
-  read_own Then t (Ended (Err error.Corrupt)) rest it = last_own t refl it.2
-  read_own Then t (Ended (Err error.NoMemory)) rest it = last_own t refl it
+  read_own Then t (Ended (Err (error.FileTooLong len))) rest it = last_own t refl refl it.1
+  read_own Then t (Ended (Err error.Corrupt)) rest it = last_own t refl refl it.2
+  read_own Then t (Ended (Err error.NoMemory)) rest it = last_own t refl refl it
   read_own Then t other rest it = rest it.value other it.then
 
   first_read_own : (edit : T) (t : Turned V T) (value : V) (gave : Gave) → ToMigrations r s t edit value gave → AddsOwn t
-  first_read_own edit t value Moved it = does_own t refl it
+  first_read_own edit t value Moved it = does_own t refl refl it
   first_read_own edit t value other it = absurd it
 
   applies_own : (edit : T) (t : Turned V T) (value : V) (gave : Gave) → Applies r s t edit value gave → AddsOwn t
-  applies_own edit t value Moved it = elim it [ inl writes ↦ does_own t refl writes.goes_on | inr keeps ↦ does_own t refl keeps.goes_on ]
-  applies_own edit t value (Ended (Err (error.Refused code edition))) it = last_own t refl it.2
-  applies_own edit t value (Ended (Err (error.ValueTooLong len))) it = last_own t refl it.1
+  applies_own edit t value Moved it = elim it [ inl writes ↦ does_own t refl refl writes.goes_on | inr keeps ↦ does_own t refl refl keeps.goes_on ]
+  applies_own edit t value (Ended (Err (error.Refused code edition))) it = last_own t refl refl it.2
+  applies_own edit t value (Ended (Err (error.ValueTooLong len))) it = last_own t refl refl it.1
   applies_own edit t value other it = absurd it
 
   row_own : (at : At V T) (t : Turned V T) (gave : Gave) → Row r s at t gave → PlanAt at → AddsOwn t
   row_own (First edit) t Blocked it plan = same_own t it.world
-  row_own (First edit) t Moved it plan = own_with t [] _ refl it.world refl refl
+  row_own (First edit) t Moved it plan = own_with t [] _ refl (λ unfailed. refl) it.world refl refl
   row_own (First edit) t (Ended (Err (error.HistoryFull entries weight))) it plan = stops_own t it.2
   row_own (First edit) t (Ended (Err error.NoMemory)) it plan = stops_own t it.2
   row_own (ReadingFirst edit) t gave it plan = read_own (ToMigrations r s t edit) t gave (first_read_own edit t) it
   row_own (Migrating edit value) t Moved it plan = same_own t it.1.world
   row_own (Migrating edit value) t (Ended (Err error.NoMemory)) it plan = stops_own t it
-  row_own (Finishing edit) t Moved it plan = own_with t (Inited t.call.id.node ∷ []) _ refl it.world refl refl
+  row_own (Finishing edit) t Moved it plan = own_with t (Inited t.call.id.node ∷ []) _ refl (λ unfailed. refl) it.world refl refl
   row_own (Reading edit) t gave it plan = read_own (Applies r s t edit) t gave (applies_own edit t) it
-  row_own (Raising plan) t Moved it so = own_with t (Raise ∷ []) _ refl it.world refl refl
-  row_own (Creating plan) t Moved it so = does_own t refl it
+  row_own (Raising plan) t Moved it so = own_with t (Raise ∷ []) _ refl (λ unfailed. refl) it.world refl refl
+  row_own (Creating plan) t Moved it so = does_own t refl refl it
   row_own (Creating plan) t (Ended (Err (error.StorageFault place))) it so = fails_own t it.1
-  row_own (Appending plan) t Moved it so = does_own t refl it
+  row_own (Appending plan) t Moved it so = does_own t refl refl it
   row_own (Appending plan) t (Ended (Err (error.StorageFault place))) it so = fails_own t it.1
-  row_own (SyncingScratch plan) t Moved it so = does_own t refl it
+  row_own (SyncingScratch plan) t Moved it so = does_own t refl refl it
   row_own (SyncingScratch plan) t (Ended (Err (error.StorageFault place))) it so = fails_own t it.1
-  row_own (Renaming plan) t Moved it so = does_own t (rw so.asked.is refl) it
+  row_own (Renaming plan) t Moved it so = does_own t (rw so.asked.is refl) (rw so.asked.is refl) it
   row_own (Renaming plan) t (Ended (Err (error.StorageFault place))) it so = fails_own t it.1
-  row_own (SyncingFolder ending) t (Ended (Ok edition)) it plan = last_own t (synced_alive V t.call.id (kept_edit ending)) it.1
+  row_own (SyncingFolder ending) t (Ended (Ok edition)) it plan = last_own t (synced_alive V t.call.id (kept_edit ending)) (synced_smooth V t.call.id (kept_edit ending)) it.1
   row_own (SyncingFolder ending) t (Ended (Err (error.NotDurable place))) it plan = fails_own t it.1
   row_own at t other it plan = absurd it
 
@@ -214,7 +230,7 @@ module _ {V T M : Type 0} (r : Rules V T) (s : Store V M) where
     turn_row gave it = row_by (is_gone t.call.at) (has_died_by (begin t)) (dies_now (begin t)) (begin t) gave (living t alive) (unplanned t none) it
 
     pub turn_adds_own : (gave : Gave) → Turn r s t gave → Knows r s t.world t.call → AddsOwn t
-    turn_adds_own gave it knows = let own = row_own t.call.at (begin t) gave (turn_row gave it).1 knows.plan in record { kinds = own.kinds; added = own.added; alive = own.alive; deaths = own.deaths }
+    turn_adds_own gave it knows = let own = row_own t.call.at (begin t) gave (turn_row gave it).1 knows.plan in record { kinds = own.kinds; added = own.added; alive = own.alive; deaths = own.deaths; smooth = own.smooth }
 
   row_goes : (at : At V T) (t : Turned V T) → Row r s at t Moved → GoesOn t
   row_goes (First edit) t it = inl (rw it.call (lock_holds V (is_ready_now t) edit))

@@ -1,5 +1,6 @@
 -- A run of the small store is shown by computing it.
-use Rattle.std.proofs.Common.{◌≡◌, ◌∙◌, inl, inr, ℕ, suc, zero, ◌+◌, nat_le, Bool, true, false, ◌&&◌, not, List, [], ◌∷◌, Option, Some, None, refl, sym, ap, arith, length, slice_get, slice_set, if◌then◌else◌, Result, Ok, Err}
+use Rattle.std.proofs.Common.{◌≡◌, ◌∙◌, inl, inr, ℕ, suc, zero, ◌+◌, ◌==◌, nat_le, Bool, true, false, ◌&&◌, not, List, [], ◌∷◌, Option, Some, None, refl, sym, ap, arith, length, slice_get, slice_set, if◌then◌else◌, Result, Ok, Err}
+use Rattle.std.proofs.lemmas.Bool.{eqb-true}
 use Rattle.std.proofs.lemmas.Bool.Decides.{nat_tests}
 use Rattle.store_traits.specs.declared.applied.Applied.{Applied}
 use Rattle.store_traits.specs.declared.applied.Applied.TheVariants.{Changed, Refused}
@@ -136,7 +137,7 @@ module _ (s : Store ℕ (Unit {0})) (none : s.migrations ≡ []) where
     code_now = refusal_by c.at w.folder.main
 
     abbrev is_right : Bool
-    is_right = is_answer (gave_by code_now) && right_by code_now
+    is_right = (is_answer (gave_by code_now) && ((world_by code_now).faults == w.faults)) && right_by code_now
 
     no_memory : (gave : Gave) → is_answer gave ≡ true → gave ≡ Ended (Err error.NoMemory) → ⊥
     no_memory gave is same = let none_given : is_answer gave ≡ false = ap (λ (g : Gave). is_answer g) same in never (sym none_given ∙ is)
@@ -182,7 +183,9 @@ module _ (s : Store ℕ (Unit {0})) (none : s.migrations ≡ []) where
     gone_so client None was works fine = inr (record { client = client; was = was; nothing = rw works refl; same = refl })
     gone_so client (Some call) was works fine =
         let code = code_now scene.world call in
-        let both = both_parts (is_answer scene.world call (gave_by scene.world call code)) (right_by scene.world call code) fine in
+        let gave = gave_by scene.world call code in
+        let both = both_parts (is_answer scene.world call gave && ((world_by scene.world call code).faults == scene.world.faults)) (right_by scene.world call code) fine in
+        let first = both_parts (is_answer scene.world call gave) ((world_by scene.world call code).faults == scene.world.faults) both.0 in
         inl
         (record {
           client = client;
@@ -195,7 +198,8 @@ module _ (s : Store ℕ (Unit {0})) (none : s.migrations ≡ []) where
                 gave = gave_by scene.world call code;
                 works = works;
                 turn = (turn_so scene.world call code refl both.1).turn;
-                memory = no_memory scene.world call (gave_by scene.world call code) both.0;
+                memory = no_memory scene.world call gave first.0;
+                unfailed = eqb-true (world_by scene.world call code).faults scene.world.faults first.1;
                 now = refl;
               };
           now = refl;

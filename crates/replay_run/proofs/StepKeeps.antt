@@ -48,7 +48,7 @@ module _ {V T M : Type 0} (r : Rules V T) (s : Store V M) where
       let begun : SceneKeeps r s (record old { clients = slice_set old.clients place client }) = begins_keeps r s old place it.client it.was keeps in
       let acts = it.acts in
       let there : slice_get (slice_set old.clients place client) place ≡ Some client = set_found old.clients place client it.client it.was in
-      let kept = turn_keeps_scene r s (record old { clients = slice_set old.clients place client }) place client acts.call acts.call_after new.world acts.gave there acts.works acts.turn acts.memory begun shelf in
+      let kept = turn_keeps_scene r s (record old { clients = slice_set old.clients place client }) place client acts.call acts.call_after new.world acts.gave there acts.works acts.turn acts.memory acts.unfailed begun shelf in
       let clients : new.clients ≡ slice_set (slice_set old.clients place client) place (behind_turn client acts.call acts.gave acts.call_after) =
           it.now ∙ (ap (λ c. slice_set old.clients place c) acts.now ∙ sym (set_twice old.clients place client (behind_turn client acts.call acts.gave acts.call_after))) in
       subst (λ c. SceneKeeps r s (record { world = new.world; clients = c })) (sym clients) kept
@@ -63,15 +63,17 @@ module _ {V T M : Type 0} (r : Rules V T) (s : Store V M) where
   pub adding_keeps : (place : ℕ) (edit : T) (old new : Scene V T) → Adds place edit old new → SceneKeeps r s old → SceneKeeps r s new
   adding_keeps place edit old new it keeps = subst (λ scene. SceneKeeps r s scene) (sym it.now) (adds_keeps r s old place it.client it.was keeps edit)
 
-  -- a session in which no death is planned begins so
-  pub start_keeps : (homes : List NodeId) (start : Scene V T) → Begins s start.world → s.deaths ≡ [] → start.clients ≡ new_clients homes → SceneKeeps r s start
-  start_keeps homes start begins unplanned new =
+  -- a session in which no death is planned, and whose folder has not failed, begins so
+  pub start_keeps : (homes : List NodeId) (start : Scene V T) → Begins s start.world → s.deaths ≡ [] → s.folder.count ≡ 0 → start.clients ≡ new_clients homes → SceneKeeps r s start
+  start_keeps homes start begins unplanned unfailed new =
       record {
         clients = λ place client found. keeps_new place client (new_from 0 homes place client (rw new at found));
         entries = rw begins.history (All-nil (IsOfCall start.clients));
         owner = rw begins.owner tt;
         alive = rw begins.history refl;
         unplanned = begins.deaths ∙ unplanned;
+        unfailed = begins.faults ∙ unfailed;
+        smooth = rw begins.history refl;
       }
     where
       keeps_new : (place : ℕ) (client : Client V T) → IsNew (0 + place) client → KeepsClient r s place start.world client

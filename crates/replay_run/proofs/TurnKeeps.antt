@@ -44,7 +44,7 @@ use Rattle.replay_run.specs.SceneKeeps.{HasOwner, IsOfCall, SceneKeeps, ShelfKee
 use Rattle.replay_run.specs.ShownByAnswers.{printed_by, shown_of}
 use Rattle.replay_run.specs.Step.{behind_turn}
 use Rattle.replay_run.proofs.AnswerLemmas.{answers_more, answers_same, cause_of_less, each-push, shown_stays, shown_within}
-use Rattle.replay_run.proofs.OwnTurns.{AddsOwn, dies, ended_owns_nothing, entries_of, finishing_readies, living, moved_holds, moved_is_same, moves_on, none_passes, prints_now, ready_stays, turn_adds_own, waits_same}
+use Rattle.replay_run.proofs.OwnTurns.{AddsOwn, dies, ended_owns_nothing, entries_of, finishing_readies, living, moved_holds, moved_is_same, moves_on, none_passes, prints_now, ready_stays, stumbles, turn_adds_own, waits_same}
 use Rattle.replay_run.proofs.ReplacedClient.{entries_on, one_of_it, owner_apart, same_call}
 use Rattle.replay_run.proofs.SetLemmas.{found_then, set_found}
 
@@ -106,7 +106,7 @@ module _ {V T M : Type 0} (r : Rules V T) (s : Store V M) where
     abbrev scene_after : Scene V T
     scene_after = record { world = world_after; clients = slice_set scene.clients place now }
 
-    module _ (found : slice_get scene.clients place ≡ Some client) (runs : client.running ≡ Some call) (turn : Turn r s turned gave) (memory : gave ≡ Ended (Err error.NoMemory) → ⊥) (keeps : SceneKeeps r s scene)
+    module _ (found : slice_get scene.clients place ≡ Some client) (runs : client.running ≡ Some call) (turn : Turn r s turned gave) (memory : gave ≡ Ended (Err error.NoMemory) → ⊥) (unfailed : world_after.faults ≡ scene.world.faults) (keeps : SceneKeeps r s scene)
         (shelf : ShelfKeeps r s scene.world) where
       mine : KeepsClient r s place scene.world client
       mine = keeps.clients place client found
@@ -332,4 +332,6 @@ module _ {V T M : Type 0} (r : Rules V T) (s : Store V M) where
             owner = owner_by world_after.owner refl;
             alive = alive_after;
             unplanned = adds.deaths ∙ keeps.unplanned;
+            unfailed = unfailed ∙ keeps.unfailed;
+            smooth = rw adds.added (list_any-append stumbles scene.world.history more ∙ rw (keeps.smooth, adds.smooth (unfailed ∙ keeps.unfailed)) refl);
           }

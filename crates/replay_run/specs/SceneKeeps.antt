@@ -1,8 +1,10 @@
 -- What holds of the scene between the steps of a run.
-use Rattle.std.specs.Prelude.{◌≡◌, ◌≤◌, ℕ, true, false, List, [], All, Some, IfSome, slice_get}
+use Rattle.std.specs.Prelude.{◌≡◌, ◌≤◌, ℕ, Bool, true, false, List, [], All, Some, IfSome, slice_get}
 use Rattle.std.specs.List.{list_any}
 use Rattle.store_traits.specs.declared.ids.CallId.{CallId}
 use Rattle.hist_journal.specs.declared.seen.EntrySeen.{EntrySeen}
+use Rattle.hist_journal.specs.declared.seen.KindSeen.{KindSeen}
+use Rattle.hist_journal.specs.declared.seen.KindSeen.TheVariants.{Raise, Edit, Same, Synced, Inited}
 use Rattle.shelf.specs.declared.store.Store.{Store}
 use Rattle.shelf.specs.Calls.{Call}
 use Rattle.shelf.specs.Entries.{is_death}
@@ -13,6 +15,15 @@ use Rattle.replay_run.specs.ClientKeeps.{KeepsClient}
 use Rattle.replay_run.specs.Scene.{Client, Scene}
 
 module _ {V T : Type 0} where
+  -- no entry of an update that goes well
+  abbrev pub is_rough : KindSeen V T → Bool
+  is_rough Raise = false
+  is_rough (Edit edit) = false
+  is_rough (Same edit) = false
+  is_rough Synced = false
+  is_rough (Inited node) = false
+  is_rough other = true
+
   -- the entry is of a call that has begun
   pub record IsOfCall (clients : List (Client V T)) (e : EntrySeen V T) : Type 0 where
     pub client : Client V T
@@ -39,6 +50,9 @@ module _ {V T M : Type 0} (r : Rules V T) (s : Store V M) where
     -- no node has died, or is to die
     pub alive : list_any (λ e. is_death e.kind) scene.world.history ≡ false
     pub unplanned : scene.world.deaths ≡ []
+    -- no call of the folder has failed
+    pub unfailed : scene.world.faults ≡ 0
+    pub smooth : list_any (λ e. is_rough e.kind) scene.world.history ≡ false
 
   -- what the shelf keeps of the world by itself
   pub record ShelfKeeps (w : World V T) : Type 0 where

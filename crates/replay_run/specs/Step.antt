@@ -34,7 +34,7 @@ module _ {V T : Type 0} where
   behind_turn client call gave call_after = record client { running = Some call_after; initialised = client.initialised || is_finishing call.at }
 
 module _ {V T M : Type 0} (r : Rules V T) (s : Store V M) where
-  -- the call of the client takes a turn, and is not answered by want of memory
+  -- the call of the client takes a turn; it is not answered by want of memory, and no call of the folder fails, as none is planned to
   pub record Acts (client : Client V T) (world : World V T) (client_after : Client V T) (world_after : World V T) : Type 0 where
     pub call : Call V T
     pub call_after : Call V T
@@ -42,6 +42,7 @@ module _ {V T M : Type 0} (r : Rules V T) (s : Store V M) where
     pub works : (at_work client).running ≡ Some call
     pub turn : Turn r s (record { world = world; call = call; world_after = world_after; call_after = call_after }) gave
     pub memory : gave ≡ Ended (Err NoMemory) → ⊥
+    pub unfailed : world_after.faults ≡ world.faults
     pub now : client_after ≡ behind_turn (at_work client) call gave call_after
 
   -- the client at this place, counted from 0, does a step, and the others stay as they are
