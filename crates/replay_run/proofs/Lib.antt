@@ -5,5 +5,6 @@ pub mod PlayedRuns
 pub mod ReplacedClient
 pub mod SetLemmas
 pub mod StepKeeps
+pub mod ToldAnswers
 pub mod TurnKeeps
 pub mod WorkLemmas
