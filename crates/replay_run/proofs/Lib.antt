@@ -1,5 +1,7 @@
 pub mod AnswerLemmas
 pub mod BeginKeeps
+pub mod GoodSession
+pub mod LineLemmas
 pub mod OwnTurns
 pub mod PlayedRuns
 pub mod ReplacedClient

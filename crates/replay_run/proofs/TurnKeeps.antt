@@ -58,7 +58,7 @@ second_none false y none = refl
 middle_none : (x y z : Bool) → y ≡ false → ((x && y) && z) ≡ false
 middle_none x y z none = rw (second_none x y none) refl
 
-unequal : (a b : ℕ) → (a ≡ b → ⊥) → (a == b) ≡ false
+pub unequal : (a b : ℕ) → (a ≡ b → ⊥) → (a == b) ≡ false
 unequal a b apart = by_test (a == b) refl
   where
     by_test : (t : Bool) → (a == b) ≡ t → t ≡ false
