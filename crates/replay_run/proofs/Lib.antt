@@ -1,5 +1,6 @@
 pub mod AnswerLemmas
 pub mod BeginKeeps
+pub mod GoodHistory
 pub mod GoodSession
 pub mod LineLemmas
 pub mod OwnTurns
