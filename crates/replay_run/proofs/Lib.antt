@@ -6,6 +6,7 @@ pub mod LineLemmas
 pub mod OwnTurns
 pub mod PlayedRuns
 pub mod ReplacedClient
+pub mod ServedOrders
 pub mod SetLemmas
 pub mod StepKeeps
 pub mod ToldAnswers

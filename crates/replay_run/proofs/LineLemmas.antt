@@ -19,7 +19,7 @@ use Rattle.replay_run.specs.ShownByAnswers.{printed_by, shown_by, shown_of}
 pub nothing : {X Y : Type 0} (y : Y) → ◌≡◌ {A = Option Y} None (Some y) → X
 nothing y is = absurd cc
 
-one_of : {Y : Type 0} (x y : Y) → ◌≡◌ {A = Option Y} (Some x) (Some y) → x ≡ y
+pub one_of : {Y : Type 0} (x y : Y) → ◌≡◌ {A = Option Y} (Some x) (Some y) → x ≡ y
 one_of x y is = cc
 
 -- the parts of a line that tells of this answer
