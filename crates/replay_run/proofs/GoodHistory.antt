@@ -33,6 +33,7 @@ use Rattle.replay_run.specs.SceneKeeps.{SceneKeeps, is_rough}
 use Rattle.replay_run.specs.ScriptRun.{Tells, result_of}
 use Rattle.replay_run.proofs.GoodSession.{IsToldOf, told_of}
 use Rattle.replay_run.proofs.LineLemmas.{nothing}
+use Rattle.replay_run.proofs.TurnKeeps.{second_none}
 
 no_part : (x y : Bool) → (x || y) ≡ false → (x ≡ false) × (y ≡ false)
 no_part true y none = never (sym none)
@@ -66,10 +67,6 @@ smooth_fails_none device (Same edit) smooth = refl
 smooth_fails_none device Synced smooth = refl
 smooth_fails_none device (Inited node) smooth = refl
 smooth_fails_none device other smooth = never (sym smooth)
-
-second_none : (x y : Bool) → y ≡ false → (x && y) ≡ false
-second_none true y none = none
-second_none false y none = refl
 
 module _ (b : Basis) (c : Chapter) (end : Scene (List PrefPair) (List EditStep)) (tells : Tells b c.told end) (keeps : SceneKeeps b.rules c.store end) where
   smooth : list_any (λ (e : PrefEntry). is_rough e.kind) c.told.entries ≡ false

@@ -1,4 +1,5 @@
 pub mod AnswerLemmas
+pub mod AskedLemmas
 pub mod BeginKeeps
 pub mod GoodHistory
 pub mod GoodSession

@@ -16,6 +16,7 @@ use Rattle.replay_run.specs.Scene.{Client, Scene}
 use Rattle.replay_run.specs.Step.{Goes, Rests, Steps, at_work, begin_next, behind_turn}
 use Rattle.replay_run.proofs.LineLemmas.{nothing, one_of}
 use Rattle.replay_run.proofs.SetLemmas.{found_then}
+use Rattle.replay_run.proofs.StepKeeps.{new_from}
 use Rattle.replay_run.proofs.TurnKeeps.{unequal}
 
 one_more : {T : Type 0} (place : ℕ) (orders : List (Order T)) (order : Order T) → edits_for place (orders ++ order ∷ []) ≡ edits_for place orders ++ edits_for place (order ∷ [])
@@ -102,3 +103,12 @@ module _ {V T M : Type 0} (r : Rules V T) (s : Store V M) (homes : List NodeId) 
       does_serve : (done : List (Order T)) (place : ℕ) (task : Task T) (old new : Scene V T) → Does r s place task old new → AreServed homes done old → AreServed homes (done ++ record { place = place; task = task } ∷ []) new
       does_serve done place (Update edit) old new it served = adds_serves done place edit old new it served
       does_serve done place (Go steps) old new it served = goes_more done place steps new (times_serves done place steps old new it served)
+
+  start_serves : (start : Scene V T) → start.clients ≡ new_clients homes → AreServed homes [] start
+  start_serves start new =
+      λ place client found.
+      let it = new_from 0 homes place client (rw new at found) in
+      record { home = it.home ∙ ap (λ (x : Client V T). Some x.node) (sym it.is); edits = ap (λ (x : Client V T). x.edits) it.is }
+
+  pub run_serves : (orders : List (Order T)) (end : Scene V T) → IsRun r s homes orders end → AreServed homes orders end
+  run_serves orders end run = rounds_serve orders run.rounds run.between end run.rest (all_serve [] orders run.start run.between run.ordered (start_serves run.start run.clients))

@@ -23,22 +23,23 @@ nothing_stands [] x behind is = cc
 nothing_stands (y ∷ before) x behind is = cc
 
 module _ {V T : Type 0} where
-  -- a client at the start stands at its place, and is a new one
-  record IsNew (place : ℕ) (client : Client V T) : Type 0 where
+  -- a client at the start stands at its place, and is a new one of the node there
+  pub record IsNew (homes : List NodeId) (index place : ℕ) (client : Client V T) : Type 0 where
     pub node : NodeId
+    pub home : slice_get homes index ≡ Some node
     pub is : client ≡ new_client place node
 
-  new_at : (first place : ℕ) (home : NodeId) (client : Client V T) → first ≡ place → new_client first home ≡ client → IsNew place client
-  new_at first place home client same is = record { node = home; is = sym is ∙ ap (λ n. new_client n home) same }
+  new_at : (first place : ℕ) (home : NodeId) (client : Client V T) → first ≡ place → new_client first home ≡ client → client ≡ new_client place home
+  new_at first place home client same is = sym is ∙ ap (λ n. new_client n home) same
 
-  new_from : (first : ℕ) (homes : List NodeId) (place : ℕ) (client : Client V T) → slice_get (map (λ placed. new_client placed.0 placed.1) (enumerate_from first homes)) place ≡ Some client → IsNew (first + place) client
+  pub new_from : (first : ℕ) (homes : List NodeId) (place : ℕ) (client : Client V T) → slice_get (map (λ placed. new_client placed.0 placed.1) (enumerate_from first homes)) place ≡ Some client → IsNew homes place (first + place) client
   new_from first [] place client is = nothing_there client is
   new_from first (home ∷ homes) zero client is =
-      new_at first (first + 0) home client (omega arith) (let both : ◌≡◌ {A = Option (Client V T)} (Some (new_client first home)) (Some client) = is in cc)
+      record { node = home; home = refl; is = new_at first (first + 0) home client (omega arith) (let both : ◌≡◌ {A = Option (Client V T)} (Some (new_client first home)) (Some client) = is in cc) }
   new_from first (home ∷ homes) (suc place) client is =
       let rest = new_from (first + 1) homes place client is in
       let same : first + 1 + place ≡ first + suc place = omega arith in
-      rw same at rest
+      record { node = rest.node; home = rest.home; is = rest.is ∙ ap (λ n. new_client n rest.node) same }
 
 module _ {V T M : Type 0} (r : Rules V T) (s : Store V M) where
   -- the scene keeps this from step to step
@@ -76,7 +77,7 @@ module _ {V T M : Type 0} (r : Rules V T) (s : Store V M) where
         smooth = rw begins.history refl;
       }
     where
-      keeps_new : (place : ℕ) (client : Client V T) → IsNew (0 + place) client → KeepsClient r s place start.world client
+      keeps_new : (place : ℕ) (client : Client V T) → IsNew homes place (0 + place) client → KeepsClient r s place start.world client
       keeps_new place client it =
           rw it.is
           (record {

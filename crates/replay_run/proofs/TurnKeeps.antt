@@ -51,7 +51,7 @@ use Rattle.replay_run.proofs.SetLemmas.{found_then, set_found}
 up_to_none : (same : Bool) (number begun : ℕ) → number < begun → (same && nat_le begun number) ≡ false
 up_to_none same number begun less = grind (arith, nat_tests, less)
 
-second_none : (x y : Bool) → y ≡ false → (x && y) ≡ false
+pub second_none : (x y : Bool) → y ≡ false → (x && y) ≡ false
 second_none true y none = none
 second_none false y none = refl
 
