@@ -1,6 +1,7 @@
 pub mod AnswerLemmas
 pub mod AskedLemmas
 pub mod BeginKeeps
+pub mod GoodCalls
 pub mod GoodHistory
 pub mod GoodSession
 pub mod LineLemmas

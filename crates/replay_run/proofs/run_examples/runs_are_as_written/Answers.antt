@@ -8,6 +8,7 @@ use Rattle.replay_run.specs.ScriptRun.{Runs}
 use Rattle.replay_run.specs.SceneKeeps.{SceneKeeps}
 use Rattle.replay_run.specs.WorkLeft.{work_left}
 use Rattle.replay_run.proofs.SetLemmas.{set_twice}
+use Rattle.replay_run.proofs.GoodCalls as calls
 use Rattle.replay_run.proofs.AskedLemmas as asked
 use Rattle.replay_run.proofs.ServedOrders as served
 use Rattle.replay_run.proofs.GoodHistory as history
