@@ -3,6 +3,7 @@ use Rattle.std.proofs.Common.{◌≡◌, ◌∙◌, inl, inr, ◌≤◌, ◌+◌
 use Rattle.std.specs.List.{list_any}
 use Rattle.std.proofs.Math.Nat.{max-le}
 use Rattle.std.proofs.lemmas.List.{take-append-drop, take-append-le}
+use Rattle.std.proofs.lemmas.Option.{slice_get_within}
 use Rattle.store_traits.specs.declared.ids.CallId.{CallId}
 use Rattle.store_traits.specs.declared.update_error.UpdateError.{UpdateError}
 use Rattle.store_traits.specs.declared.update_error.UpdateError.TheVariants as error
@@ -13,10 +14,11 @@ use Rattle.hist_journal.proofs.FoldLemmas.{edition_of-append}
 use Rattle.shelf.specs.declared.store.Store.{Store}
 use Rattle.shelf.specs.Causes.{HasCause}
 use Rattle.shelf.specs.Places.{HasFront, StandsAt, is_up_to}
-use Rattle.shelf.specs.World.{Rules}
+use Rattle.shelf.specs.Calls.{Call}
+use Rattle.shelf.specs.World.{Rules, World}
 use Rattle.shelf.proofs.CauseLemmas.{HasCause-more, IsUpdated-more, none_up_to}
 use Rattle.script_lang.specs.Each.{Each}
-use Rattle.replay_run.specs.ClientKeeps.{IsExplained, IsTrueAnswer}
+use Rattle.replay_run.specs.ClientKeeps.{IsExplained, IsTrueAnswer, KeepsClient, KeepsRunning}
 use Rattle.replay_run.specs.Scene.{Answered, Client, call_of}
 use Rattle.replay_run.specs.ShownByAnswers.{printed_by, shown_by, shown_of}
 
@@ -141,3 +143,20 @@ module _ {V T M : Type 0} (r : Rules V T) (s : Store V M) where
         late = here.late;
         memory = here.memory;
       }
+
+  -- no call has begun for which there is no edit
+  module _ (place : ℕ) (w : World V T) (client : Client V T) (kept : KeepsClient r s place w client) where
+    edits_from : (before rest : List Answered) → AreTrue client w.history before rest → length before ≤ length client.edits → length before + length rest ≤ length client.edits
+    edits_from before [] all within = omega (arith, within)
+    edits_from before (a ∷ rest) all within =
+        let here = all before a rest refl in
+        let more = slice_get_within client.edits (length before) here.edit here.asked in
+        let deeper = edits_from (before ++ a ∷ []) rest (are_true_on client w.history before rest a all) (omega (arith, more, length-append before (a ∷ []))) in
+        omega (arith, deeper, length-append before (a ∷ []))
+
+    begun_by : (running : Option (Call V T)) → KeepsRunning r s client w running → client.begun ≤ length client.edits
+    begun_by None counted = let all = edits_from [] client.answered kept.answers omega arith in omega (arith, all, counted)
+    begun_by (Some call) it = let more = slice_get_within client.edits (length client.answered) it.edit it.asked in let counted = it.counted in omega (arith, more, counted)
+
+    pub begun_within : client.begun ≤ length client.edits
+    begun_within = begun_by client.running kept.running

@@ -1,8 +1,9 @@
 -- The rules on acknowledgements and causes of a transcript, which its run keeps in a session.
-use Rattle.std.proofs.Common.{◌≡◌, ◌∙◌, ◌⊎◌, inl, inr, ◌≤◌, ◌<◌, ◌+◌, ℕ, nat_le, Bool, true, false, List, [], map, length, Contains, Option, Some, None, IfSome, MatchOption, count_by, is_some, slice_get, slice_index_or, refl, sym, ap, subst, arith, if◌then◌else◌, Result, Ok, Err}
+use Rattle.std.proofs.Common.{◌≡◌, ◌∙◌, ◌⊎◌, inl, inr, ◌≤◌, ◌<◌, ◌+◌, ◌-◌, ◌||◌, ℕ, nat_le, Bool, true, false, List, [], ◌∷◌, ◌++◌, map, length, All, Contains, Option, Some, None, IfSome, MatchOption, count_by, is_some, slice_get, slice_index_or, refl, sym, ap, subst, arith, if◌then◌else◌, Result, Ok, Err}
 use Rattle.std.specs.List.{list_any}
 use Rattle.std.proofs.lemmas.Bool.Decides.{nat_tests}
-use Rattle.std.proofs.lemmas.Option.{get_or_from_slice_get, slice_get_within}
+use Rattle.std.proofs.lemmas.List.Elements.{All-head, All-tail}
+use Rattle.std.proofs.lemmas.Option.{get_or_from_slice_get, slice_get_cases, slice_get_within}
 use Rattle.store_traits.specs.declared.ids.CallId.{CallId}
 use Rattle.store_traits.specs.declared.ids.ClientId.{ClientId}
 use Rattle.store_traits.specs.declared.ids.NodeId.{NodeId}
@@ -15,23 +16,24 @@ use Rattle.prefs_text.specs.declared.seen.AnswerSeen.{AnswerSeen}
 use Rattle.prefs_text.specs.declared.seen.AnswerSeen.TheVariants as seen
 use Rattle.shelf.specs.Acknowledged.{IsUpdated}
 use Rattle.shelf.specs.Causes.{HasCause}
+use Rattle.shelf.proofs.Bools.{never}
 use Rattle.script_lang.specs.declared.run_line.Act.TheVariants as act
 use Rattle.script_lang.specs.declared.script.Script.{Script}
-use Rattle.script_lang.specs.AnswerForms.{update_error}
+use Rattle.script_lang.specs.AnswerForms.{answers, answers_update, is_cut, update_error}
 use Rattle.script_lang.specs.Asked.{asked_by, home_of, is_actor, is_call_line_of}
 use Rattle.script_lang.specs.Chronicle.{Basis, Chapter}
 use Rattle.script_lang.specs.Each.{Each}
-use Rattle.script_lang.specs.GoodAnswers.{IsAsked, IsHome, IsTold}
+use Rattle.script_lang.specs.GoodAnswers.{HasForm, IsAsked, IsHome, IsTold}
 use Rattle.script_lang.specs.GoodCauses.{HasCauseBy, HasPostedCause, HasUpdateCause, IsCaused}
 use Rattle.script_lang.specs.GoodUpdates.{Acknowledges, CarriesEdit, IsAcknowledged, IsDone, has_restart}
 use Rattle.script_lang.specs.Shown.{shown_to}
 use Rattle.replay_run.specs.ClientKeeps.{IsExplained, IsTrueAnswer, KeepsClient}
 use Rattle.replay_run.specs.Order.{AreServed, IsServed, Order, edits_for}
 use Rattle.replay_run.specs.Scene.{Answered, Client, Scene}
-use Rattle.replay_run.specs.SceneKeeps.{SceneKeeps}
-use Rattle.replay_run.specs.ScriptRun.{Tells, order_of}
+use Rattle.replay_run.specs.SceneKeeps.{IsOfCall, SceneKeeps}
+use Rattle.replay_run.specs.ScriptRun.{Tells, order_of, result_of}
 use Rattle.replay_run.specs.ShownByAnswers.{shown_of}
-use Rattle.replay_run.proofs.AnswerLemmas.{cause_of_less}
+use Rattle.replay_run.proofs.AnswerLemmas.{begun_within, cause_of_less}
 use Rattle.replay_run.proofs.AskedLemmas.{asked_for}
 use Rattle.replay_run.proofs.GoodHistory.{restarts_none}
 use Rattle.replay_run.proofs.GoodSession.{IsToldOf, shown_less, told_of, true_answer}
@@ -49,6 +51,19 @@ done_otherwise : (c : Chapter) (line : AnswerLineSeen) (answer : AnswerSeen) (er
 done_otherwise c line (seen.Updated edition) err is none = nothing err is
 done_otherwise c line (seen.Restarted place) err is none = nothing err is
 done_otherwise c line other err is none = none
+
+some_or : {X : Type 0} (o : Option X) (b : Bool) (x : X) → o ≡ Some x → (is_some o || b) ≡ true
+some_or None b x is = nothing x is
+some_or (Some y) b x is = refl
+
+-- an error is an answer of an update
+error_answers : (answer : AnswerSeen) (err : UpdateError) → update_error answer ≡ Some err → answers_update answer ≡ true
+error_answers (seen.Updated edition) err is = refl
+error_answers other err is = some_or (update_error other) (is_cut other) err is
+
+uncut : (answer : AnswerSeen) (r : Result ℕ UpdateError) → result_of answer ≡ Some r → is_cut answer ≡ false
+uncut seen.Cut r is = nothing r is
+uncut other r is = refl
 
 module _ (b : Basis) (script : Script) (c : Chapter) (end : Scene (List PrefPair) (List EditStep)) (tells : Tells b c.told end) (keeps : SceneKeeps b.rules c.store end) (orders : List (Order (List EditStep)))
     (served : AreServed script.homes orders end) (understood : map order_of c.plan.lines ≡ map (λ order. Some order) orders) (asked : c.asked ≡ asked_by script [] c.plan.lines)
@@ -141,6 +156,26 @@ module _ (b : Basis) (script : Script) (c : Chapter) (end : Scene (List PrefPair
         subst (λ o. MatchOption o (IsAsked c line.call (HasCauseBy b c before line)) (HasPostedCause b c before line)) (sym it.tells_it.poster)
         (record { act = act.Update truth.edit; asked = line_asked; fits = caused })
 
+    line_formed : HasForm c line
+    line_formed =
+        subst (λ o. MatchOption o (IsAsked c line.call (λ act. answers act line.answer ≡ true)) (λ poster. answers_update line.answer ≡ true)) (sym it.tells_it.poster)
+        (record {
+          act = act.Update truth.edit;
+          asked = line_asked;
+          fits =
+              elim (result_parts line.answer it.a.answer it.tells_it.result) [
+                | inl updated ↦ subst (λ answer. answers_update answer ≡ true) (sym updated.1) refl
+                | inr failed ↦ error_answers line.answer failed.0 failed.1
+              ];
+        })
+
+  -- G2: each answer is of the form of its call, and no call is cut
+  pub formed : Each (λ before line. HasForm c line) c.told.answers
+  formed before line behind is = line_formed before line (told_of b c end tells keeps before line behind is)
+
+  pub none_cut : Each (λ before line. is_cut line.answer ≡ true → is_some c.plan.stop ≡ true) c.told.answers
+  none_cut before line behind is cut = let it = told_of b c end tells keeps before line behind is in never (sym (uncut line.answer it.a.answer it.tells_it.result) ∙ cut)
+
   -- each answer has the node of its client
   pub homes_told : Each (λ before line. IsTold script line) c.told.answers
   homes_told before line behind is = line_home before line (told_of b c end tells keeps before line behind is)
@@ -152,3 +187,58 @@ module _ (b : Basis) (script : Script) (c : Chapter) (end : Scene (List PrefPair
   -- G6: each error has its cause
   pub errors_caused : Each (IsCaused b c) c.told.answers
   errors_caused before line behind is = line_caused before line (told_of b c end tells keeps before line behind is)
+
+  -- an entry of a call that has begun
+  module _ (e : PrefEntry) (of : IsOfCall end.clients e) where
+    abbrev entry_place : ℕ
+    entry_place = e.who.client.0
+
+    entry_served : IsServed script.homes orders entry_place of.client
+    entry_served = served entry_place of.client of.found
+
+    entry_actor : is_actor script e.who.client ≡ false
+    entry_actor = not_past (length script.names.clients) entry_place (let within = slice_get_within script.homes entry_place of.client.node entry_served.home in omega (arith, within, one_each))
+
+    entry_home : IsHome script e.who
+    entry_home = of.node ∙ at_home (is_actor script e.who.client) _ script.homes entry_place of.client.node entry_actor entry_served.home
+
+    entry_asked : IsAsked c e.who (λ act. Unit {0})
+    entry_asked = by_edit (slice_get_cases of.client.edits (e.who.number - 1)).1
+      where
+        begun : of.client.begun ≤ length of.client.edits
+        begun = begun_within b.rules c.store entry_place end.world of.client (keeps.clients entry_place of.client of.found)
+
+        by_edit : (((edit : List EditStep) × (e.who.number - 1 < length of.client.edits) × (slice_get of.client.edits (e.who.number - 1) ≡ Some edit) × (slice_index_or of.client.edits (e.who.number - 1) edit ≡ edit))
+              ⊎ ((length of.client.edits ≤ e.who.number - 1) × (slice_get of.client.edits (e.who.number - 1) ≡ None)))
+            → IsAsked c e.who (λ act. Unit {0})
+        by_edit (inr past) = absurd (let first = of.first in let last = of.begun in omega (arith, past.0, first, last, begun))
+        by_edit (inl found) =
+            let there : slice_get (edits_for entry_place orders) (e.who.number - 1) ≡ Some found.0 = subst (λ es. slice_get es (e.who.number - 1) ≡ Some found.0) entry_served.edits found.2 in
+            let at = asked_for script entry_place c.plan.lines orders [] (e.who.number - 1) found.0 understood there in
+            let first = of.first in
+            let number : count_by (is_call_line_of e.who.client) [] + (e.who.number - 1) + 1 ≡ e.who.number = omega (arith, first) in
+            let same : record { node = home_of script e.who.client; client = e.who.client; number = count_by (is_call_line_of e.who.client) [] + (e.who.number - 1) + 1 } ≡ e.who =
+                ap (λ k. record { node = home_of script e.who.client; client = e.who.client; number = k }) number ∙ ap (λ n. record { node = n; client = e.who.client; number = e.who.number }) (sym entry_home) in
+            record {
+              act = act.Update found.0;
+              asked =
+                  subst (λ list. Contains list (record { call = e.who; act = act.Update found.0 })) (sym asked)
+                  (subst (λ call. Contains (asked_by script [] c.plan.lines) (record { call = call; act = act.Update found.0 })) same at);
+              fits = tt;
+            }
+
+  entry_of : (before : List PrefEntry) (e : PrefEntry) (behind : List PrefEntry) → c.told.entries ≡ before ++ e ∷ behind → IsOfCall end.clients e
+  entry_of before e behind is =
+      let all : All (IsOfCall end.clients) (before ++ e ∷ behind) = subst (λ list. All (IsOfCall end.clients) list) (sym tells.entries ∙ is) keeps.entries in
+      All-head (IsOfCall end.clients) e behind (rest_of before (e ∷ behind) all)
+    where
+      rest_of : (front list : List PrefEntry) → All (IsOfCall end.clients) (front ++ list) → All (IsOfCall end.clients) list
+      rest_of [] list all = all
+      rest_of (x ∷ front) list all = rest_of front list (All-tail (IsOfCall end.clients) x (front ++ list) all)
+
+  -- each entry is of a call that a line asks for, and has its node
+  pub entries_home : Each (λ before e. IsHome script e.who) c.told.entries
+  entries_home before e behind is = entry_home e (entry_of before e behind is)
+
+  pub entries_asked : Each (λ before e. (is_actor script e.who.client ≡ true) ⊎ IsAsked c e.who (λ act. Unit {0})) c.told.entries
+  entries_asked before e behind is = inr (entry_asked e (entry_of before e behind is))
