@@ -1,5 +1,5 @@
 -- The answers of a client stay true as the history grows.
-use Rattle.std.proofs.Common.{◌≡◌, ◌∙◌, inl, inr, ◌≤◌, ◌+◌, ◌-◌, ◌==◌, ◌&&◌, nat_le, ℕ, max, Bool, true, false, List, [], ◌∷◌, ◌++◌, take, drop, length, length-append, Option, Some, None, IfSome, append_assoc, slice_get, refl, sym, ap, arith, Result, Ok, Err}
+use Rattle.std.proofs.Common.{◌≡◌, ◌∙◌, inl, inr, ◌≤◌, ◌+◌, ℕ, false, List, [], ◌∷◌, ◌++◌, take, drop, length, length-append, Option, Some, None, append_assoc, slice_get, refl, sym, ap, arith, Result, Ok, Err}
 use Rattle.std.specs.List.{list_any}
 use Rattle.std.proofs.Math.Nat.{max-le}
 use Rattle.std.proofs.lemmas.List.{take-append-drop, take-append-le}
@@ -13,14 +13,14 @@ use Rattle.hist_journal.proofs.ClearingLemmas.{last_or_before, longer}
 use Rattle.hist_journal.proofs.FoldLemmas.{edition_of-append}
 use Rattle.shelf.specs.declared.store.Store.{Store}
 use Rattle.shelf.specs.Causes.{HasCause}
-use Rattle.shelf.specs.Places.{HasFront, StandsAt, is_up_to}
+use Rattle.shelf.specs.Places.{is_up_to}
 use Rattle.shelf.specs.Calls.{Call}
 use Rattle.shelf.specs.World.{Rules, World}
 use Rattle.shelf.proofs.CauseLemmas.{HasCause-more, IsUpdated-more, none_up_to}
 use Rattle.script_lang.specs.Each.{Each}
 use Rattle.replay_run.specs.ClientKeeps.{IsExplained, IsTrueAnswer, KeepsClient, KeepsRunning}
 use Rattle.replay_run.specs.Scene.{Answered, Client, call_of}
-use Rattle.replay_run.specs.ShownByAnswers.{printed_by, shown_by, shown_of}
+use Rattle.replay_run.specs.ShownByAnswers.{shown_by, shown_of}
 
 -- one more element of which it holds
 pub each-push : {X : Type 0} (Holds : List X → X → Type 0) (list : List X) (last : X) → Each Holds list → Holds list last → Each Holds (list ++ last ∷ [])
@@ -71,7 +71,7 @@ module _ {V T M : Type 0} (r : Rules V T) (s : Store V M) where
     shown_more more (Err (error.NotDurable place)) it =
         elim it [
           | inl changed ↦ (let failed = changed.failed in
-            taken_more place list more (place_within failed.before (failed.between ++ failed.second ∷ failed.behind) list failed.first place failed.is changed.counted))
+              taken_more place list more (place_within failed.before (failed.between ++ failed.second ∷ failed.behind) list failed.first place failed.is changed.counted))
           | inr same ↦ (let fault = same.fault in taken_more place list more (place_within fault.before fault.behind list fault.entry place fault.is fault.counted))
         ]
     shown_more more (Err (error.LegacyFault place)) it = taken_more place list more (place_within it.before it.behind list it.entry place it.is it.counted)

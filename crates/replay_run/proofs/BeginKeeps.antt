@@ -1,5 +1,5 @@
 -- A scene keeps what it keeps as a client is asked for more, and as its next call begins.
-use Rattle.std.proofs.Common.{◌≡◌, ◌∙◌, inl, inr, ◌≤◌, ◌+◌, ◌==◌, ◌&&◌, ℕ, nat_lt, Bool, true, false, List, All, [], ◌∷◌, ◌++◌, length, Option, Some, None, IfSome, slice_get, slice_set, refl, sym, ap, arith}
+use Rattle.std.proofs.Common.{◌≡◌, ◌∙◌, inl, inr, ◌≤◌, ◌+◌, ◌==◌, ◌&&◌, ℕ, nat_lt, Bool, true, false, List, All, length, Option, Some, None, slice_get, slice_set, refl, sym, ap, arith}
 use Rattle.std.specs.List.{list_any}
 use Rattle.std.proofs.lemmas.Bool.{eqb-true, eq-eqb}
 use Rattle.std.proofs.lemmas.Bool.Decides.{nat_tests}
@@ -22,13 +22,13 @@ use Rattle.node_core.specs.Knows.{Knows}
 use Rattle.node_core.specs.Own.{is_late}
 use Rattle.script_lang.proofs.NameLemmas.{slice_get-push_before}
 use Rattle.replay_run.specs.ClientKeeps.{KeepsClient, KeepsRunning}
-use Rattle.replay_run.specs.Order.{Adds, with_edit}
+use Rattle.replay_run.specs.Order.{with_edit}
 use Rattle.replay_run.specs.Scene.{Client, Scene, call_of}
 use Rattle.replay_run.specs.SceneKeeps.{HasOwner, IsOfCall, SceneKeeps}
 use Rattle.replay_run.specs.Step.{at_work, begin_next, new_call}
 use Rattle.replay_run.proofs.AnswerLemmas.{answers_same}
 use Rattle.replay_run.proofs.ReplacedClient.{entries_on, one_of_it, owner_apart}
-use Rattle.replay_run.proofs.SetLemmas.{found_then, others_found, set_found, set_same}
+use Rattle.replay_run.proofs.SetLemmas.{found_then, set_found, set_same}
 
 number_apart : (begun number : ℕ) (others : Bool) → number ≤ begun → (others && (begun + 1 == number)) ≡ false
 number_apart begun number others within = grind (arith, nat_tests, within)
@@ -126,9 +126,9 @@ module _ {V T M : Type 0} (r : Rules V T) (s : Store V M) where
     owner_elsewhere now idle owner it =
         owner_apart scene.clients place client now found owner it
         (λ here.
-          let is_client : it.client ≡ client = one_of_it (slice_get scene.clients place) it.client client (rw (← here) it.found) found in
-          let no : ◌≡◌ {A = Option (Call V T)} None (Some it.call) = sym idle ∙ (ap (λ (c : Client V T). c.running) (sym is_client) ∙ it.runs) in
-          (let never_is : ⊥ = absurd (cc) in never_is))
+        let is_client : it.client ≡ client = one_of_it (slice_get scene.clients place) it.client client (rw (← here) it.found) found in
+        let no : ◌≡◌ {A = Option (Call V T)} None (Some it.call) = sym idle ∙ (ap (λ (c : Client V T). c.running) (sym is_client) ∙ it.runs) in
+        (let never_is : ⊥ = absurd (cc) in never_is))
 
     -- the client is asked for one more call
     pub adds_keeps : (edit : T) → SceneKeeps r s (with_client (with_edit edit client))

@@ -1,6 +1,5 @@
 -- The rules on acknowledgements and causes of a transcript, which its run keeps in a session.
 use Rattle.std.proofs.Common.{◌≡◌, ◌∙◌, ◌⊎◌, inl, inr, ◌≤◌, ◌<◌, ◌+◌, ◌-◌, ◌||◌, ℕ, nat_le, Bool, true, false, List, [], ◌∷◌, ◌++◌, map, length, All, Contains, Option, Some, None, IfSome, MatchOption, count_by, is_some, slice_get, slice_index_or, refl, sym, ap, subst, arith, if◌then◌else◌, Result, Ok, Err}
-use Rattle.std.specs.List.{list_any}
 use Rattle.std.proofs.lemmas.Bool.Decides.{nat_tests}
 use Rattle.std.proofs.lemmas.List.Elements.{All-head, All-tail}
 use Rattle.std.proofs.lemmas.Option.{get_or_from_slice_get, slice_get_cases, slice_get_within}
@@ -25,11 +24,11 @@ use Rattle.script_lang.specs.Chronicle.{Basis, Chapter}
 use Rattle.script_lang.specs.Each.{Each}
 use Rattle.script_lang.specs.GoodAnswers.{HasForm, IsAsked, IsHome, IsTold}
 use Rattle.script_lang.specs.GoodCauses.{HasCauseBy, HasPostedCause, HasUpdateCause, IsCaused}
-use Rattle.script_lang.specs.GoodUpdates.{Acknowledges, CarriesEdit, IsAcknowledged, IsDone, has_restart}
+use Rattle.script_lang.specs.GoodUpdates.{Acknowledges, IsAcknowledged, IsDone, has_restart}
 use Rattle.script_lang.specs.Shown.{shown_to}
 use Rattle.replay_run.specs.ClientKeeps.{IsExplained, IsTrueAnswer, KeepsClient}
 use Rattle.replay_run.specs.Order.{AreServed, IsServed, Order, edits_for}
-use Rattle.replay_run.specs.Scene.{Answered, Client, Scene}
+use Rattle.replay_run.specs.Scene.{Scene}
 use Rattle.replay_run.specs.SceneKeeps.{IsOfCall, SceneKeeps}
 use Rattle.replay_run.specs.ScriptRun.{Tells, order_of, result_of}
 use Rattle.replay_run.specs.ShownByAnswers.{shown_of}
@@ -139,7 +138,7 @@ module _ (b : Basis) (script : Script) (c : Chapter) (end : Scene (List PrefPair
     cause_now : (err : UpdateError) → it.a.answer ≡ Err err → HasCause b.rules c.store (shown_to line.call.client c.told.entries before) line.call truth.edit err c.told.entries
     cause_now err is =
         let explained : HasCause b.rules c.store (shown_of end.world.history it.within) it.a.call truth.edit err end.world.history =
-            subst (λ answer. IsExplained b.rules c.store (shown_of end.world.history it.within) it.a.call truth.edit answer end.world.history) is truth.explained in
+        subst (λ answer. IsExplained b.rules c.store (shown_of end.world.history it.within) it.a.call truth.edit answer end.world.history) is truth.explained in
         let less = cause_of_less b.rules c.store (shown_to line.call.client c.told.entries before) (shown_of end.world.history it.within) it.a.call truth.edit err end.world.history (shown_less b c end tells keeps before line it) explained in
         subst (λ list. HasCause b.rules c.store (shown_to line.call.client c.told.entries before) line.call truth.edit err list) (sym tells.entries)
         (subst (λ call. HasCause b.rules c.store (shown_to line.call.client c.told.entries before) call truth.edit err end.world.history) (sym it.tells_it.call) less)
@@ -209,7 +208,7 @@ module _ (b : Basis) (script : Script) (c : Chapter) (end : Scene (List PrefPair
         begun = begun_within b.rules c.store entry_place end.world of.client (keeps.clients entry_place of.client of.found)
 
         by_edit : (((edit : List EditStep) × (e.who.number - 1 < length of.client.edits) × (slice_get of.client.edits (e.who.number - 1) ≡ Some edit) × (slice_index_or of.client.edits (e.who.number - 1) edit ≡ edit))
-              ⊎ ((length of.client.edits ≤ e.who.number - 1) × (slice_get of.client.edits (e.who.number - 1) ≡ None)))
+            ⊎ ((length of.client.edits ≤ e.who.number - 1) × (slice_get of.client.edits (e.who.number - 1) ≡ None)))
             → IsAsked c e.who (λ act. Unit {0})
         by_edit (inr past) = absurd (let first = of.first in let last = of.begun in omega (arith, past.0, first, last, begun))
         by_edit (inl found) =
@@ -218,7 +217,7 @@ module _ (b : Basis) (script : Script) (c : Chapter) (end : Scene (List PrefPair
             let first = of.first in
             let number : count_by (is_call_line_of e.who.client) [] + (e.who.number - 1) + 1 ≡ e.who.number = omega (arith, first) in
             let same : record { node = home_of script e.who.client; client = e.who.client; number = count_by (is_call_line_of e.who.client) [] + (e.who.number - 1) + 1 } ≡ e.who =
-                ap (λ k. record { node = home_of script e.who.client; client = e.who.client; number = k }) number ∙ ap (λ n. record { node = n; client = e.who.client; number = e.who.number }) (sym entry_home) in
+            ap (λ k. record { node = home_of script e.who.client; client = e.who.client; number = k }) number ∙ ap (λ n. record { node = n; client = e.who.client; number = e.who.number }) (sym entry_home) in
             record {
               act = act.Update found.0;
               asked =

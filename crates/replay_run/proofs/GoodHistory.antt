@@ -1,14 +1,12 @@
 -- The rules on the history, the file and the failures of a transcript, which its run keeps in a session.
-use Rattle.std.proofs.Common.{◌≡◌, ◌∙◌, ◌≤◌, ◌&&◌, ◌||◌, ℕ, Bool, true, false, List, [], ◌∷◌, ◌++◌, length, cond, Option, None, IfSome, count_by, refl, sym, ap, subst, arith, Result}
+use Rattle.std.proofs.Common.{◌≡◌, ◌∙◌, ◌||◌, Bool, true, false, List, [], ◌∷◌, ◌++◌, cond, count_by, refl, sym, ap, arith}
 use Rattle.std.specs.List.{list_any}
 use Rattle.std.proofs.lemmas.List.Folds.{list_any-append}
 use Rattle.std.proofs.lemmas.List.Sums.{sum_by-cons}
 use Rattle.store_traits.specs.declared.ids.CallId.{CallId}
-use Rattle.store_traits.specs.declared.update_error.UpdateError.{UpdateError}
 use Rattle.prefs_edit.specs.declared.edit_step.EditStep.{EditStep}
 use Rattle.prefs_model.specs.declared.pref_pair.PrefPair.{PrefPair}
 use Rattle.prefs_text.specs.EntryText.{PrefEntry, PrefKind}
-use Rattle.prefs_text.specs.declared.seen.AnswerLineSeen.{AnswerLineSeen}
 use Rattle.prefs_text.specs.declared.seen.AnswerSeen.{AnswerSeen}
 use Rattle.prefs_text.specs.declared.seen.AnswerSeen.TheVariants as seen
 use Rattle.hist_journal.specs.declared.device.Device.{Device}
@@ -23,15 +21,14 @@ use Rattle.shelf.specs.Places.{is_fault_of}
 use Rattle.shelf.proofs.Bools.{never}
 use Rattle.shelf.proofs.RaiseLemmas.{none_of_fewer}
 use Rattle.script_lang.specs.Chronicle.{Basis, Chapter, IsLawful}
-use Rattle.script_lang.specs.Each.{Each}
 use Rattle.script_lang.specs.Good.{KeepsPlans, Scripted, TellsFile, file_seen}
-use Rattle.script_lang.specs.GoodFailures.{DiesAsPlanned, FailsAsPlanned, IsPlanned, Spares}
+use Rattle.script_lang.specs.GoodFailures.{Spares}
 use Rattle.script_lang.specs.GoodPosts.{DoesJobs}
 use Rattle.script_lang.specs.GoodUpdates.{has_restart, is_restart}
 use Rattle.replay_run.specs.Scene.{Scene}
 use Rattle.replay_run.specs.SceneKeeps.{SceneKeeps, is_rough}
 use Rattle.replay_run.specs.ScriptRun.{Tells, result_of}
-use Rattle.replay_run.proofs.GoodSession.{IsToldOf, told_of}
+use Rattle.replay_run.proofs.GoodSession.{told_of}
 use Rattle.replay_run.proofs.LineLemmas.{nothing}
 use Rattle.replay_run.proofs.TurnKeeps.{second_none}
 

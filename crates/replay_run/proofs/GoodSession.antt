@@ -1,33 +1,24 @@
 -- The rules of a transcript that tells the truth, which its run keeps in a session.
-use Rattle.std.proofs.Common.{◌≡◌, ◌≢◌, ◌∙◌, ◌⊎◌, inl, inr, ◌≤◌, ◌<◌, ◌+◌, ◌==◌, ◌&&◌, ◌||◌, ℕ, suc, zero, Bool, true, false, List, [], ◌∷◌, ◌++◌, map, flat_map, length, length-append, All, Option, Some, None, IfSome, append_assoc, count_by, slice_get, refl, sym, ap, subst, arith, Result, Ok, Err}
-use Rattle.std.specs.List.{list_any}
-use Rattle.std.proofs.lemmas.Bool.{eqb-true}
+use Rattle.std.proofs.Common.{◌≡◌, ◌∙◌, ◌≤◌, ◌==◌, ℕ, suc, zero, false, List, [], ◌∷◌, ◌++◌, map, flat_map, length, All, Option, Some, None, IfSome, append_assoc, slice_get, refl, sym, ap, subst, arith, Result}
 use Rattle.std.proofs.lemmas.List.Elements.{All-append, All-cons, All-nil}
-use Rattle.std.proofs.lemmas.List.Folds.{list_any-append}
 use Rattle.std.proofs.lemmas.Option.{IfSome_then, slice_get_within}
 use Rattle.store_traits.specs.declared.ids.CallId.{CallId}
 use Rattle.store_traits.specs.declared.update_error.UpdateError.{UpdateError}
 use Rattle.prefs_edit.specs.declared.edit_step.EditStep.{EditStep}
 use Rattle.prefs_model.specs.declared.pref_pair.PrefPair.{PrefPair}
-use Rattle.prefs_text.specs.EntryText.{PrefEntry, PrefKind}
 use Rattle.prefs_text.specs.declared.seen.AnswerLineSeen.{AnswerLineSeen}
 use Rattle.prefs_text.specs.declared.seen.AnswerSeen.{AnswerSeen}
 use Rattle.prefs_text.specs.declared.seen.AnswerSeen.TheVariants as seen
-use Rattle.shelf.specs.declared.store.Store.{Store}
-use Rattle.shelf.specs.Causes.{HasCause}
-use Rattle.shelf.proofs.Bools.{never}
-use Rattle.script_lang.specs.AnswerForms.{update_error}
 use Rattle.script_lang.specs.Chronicle.{Basis, Chapter}
 use Rattle.script_lang.specs.Each.{Each}
-use Rattle.script_lang.specs.GoodReads.{GivesValue, GivesValues, IsFresh, KeepsFlow, KeepsFresh}
+use Rattle.script_lang.specs.GoodReads.{GivesValue, GivesValues, KeepsFlow, KeepsFresh}
 use Rattle.script_lang.specs.Shown.{last_flow, printed, shown_to}
 use Rattle.replay_run.specs.ClientKeeps.{IsTrueAnswer, KeepsClient}
-use Rattle.replay_run.specs.Scene.{Answered, Client, Scene, call_of}
+use Rattle.replay_run.specs.Scene.{Answered, Client, Scene}
 use Rattle.replay_run.specs.SceneKeeps.{SceneKeeps}
 use Rattle.replay_run.specs.ScriptRun.{Tells, all_answers, answered_of, result_of}
 use Rattle.replay_run.specs.ShownByAnswers.{printed_by, shown_of}
-use Rattle.replay_run.proofs.AnswerLemmas.{cause_of_less}
-use Rattle.replay_run.proofs.LineLemmas.{Reads, line_tells, nothing, result_parts, same_print, shown_past}
+use Rattle.replay_run.proofs.LineLemmas.{Reads, line_tells, nothing, same_print, shown_past}
 use Rattle.replay_run.proofs.TurnKeeps.{unequal}
 use Rattle.replay_run.proofs.ToldAnswers.{reads_at, split_all}
 
@@ -78,11 +69,11 @@ module _ (b : Basis) (c : Chapter) (end : Scene (List PrefPair) (List EditStep))
   apart_from earlier one later is =
       all_flat (λ (x : Answered). (length earlier == x.call.client.0) ≡ false) (λ x. x.answered) earlier
       (λ place client found.
-        let kept : KeepsClient b.rules c.store place end.world client = keeps.clients place client (rw is (found_in_front earlier one later place client found)) in
-        all_each (λ (x : Answered). (length earlier == x.call.client.0) ≡ false) [] client.answered
-        (λ front a behind there.
-          let own : a.call.client.0 ≡ place = ap (λ (id : CallId). id.client.0) (kept.answers front a behind there).call ∙ kept.id in
-          unequal (length earlier) a.call.client.0 (λ same. omega (arith, same, own, slice_get_within earlier place client found))))
+      let kept : KeepsClient b.rules c.store place end.world client = keeps.clients place client (rw is (found_in_front earlier one later place client found)) in
+      all_each (λ (x : Answered). (length earlier == x.call.client.0) ≡ false) [] client.answered
+      (λ front a behind there.
+      let own : a.call.client.0 ≡ place = ap (λ (id : CallId). id.client.0) (kept.answers front a behind there).call ∙ kept.id in
+      unequal (length earlier) a.call.client.0 (λ same. omega (arith, same, own, slice_get_within earlier place client found))))
 
   pub told_of : Each IsToldOf c.told.answers
   told_of before told_line behind is =
@@ -116,7 +107,7 @@ module _ (b : Basis) (c : Chapter) (end : Scene (List PrefPair) (List EditStep))
     pub shown_less : shown_to told_line.call.client c.told.entries before ≤ shown_of end.world.history it.within
     shown_less =
         let less : shown_to told_line.call.client end.world.history before ≤ shown_of end.world.history it.within =
-            shown_past end.world.history told_line.call.client before (flat_map (λ x. x.answered) it.earlier) it.within it.lines (rw client_is it.apart) in
+        shown_past end.world.history told_line.call.client before (flat_map (λ x. x.answered) it.earlier) it.within it.lines (rw client_is it.apart) in
         rw tells.entries less
 
     pub printed_late : IfSome (printed told_line.answer) (λ edition. shown_to told_line.call.client c.told.entries before ≤ edition)

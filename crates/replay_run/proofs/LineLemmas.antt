@@ -1,5 +1,5 @@
 -- What the lines of a transcript tell of the answers of its clients.
-use Rattle.std.proofs.Common.{◌≡◌, ◌≢◌, ◌∙◌, ◌⊎◌, inl, inr, ◌≤◌, ◌<◌, ◌+◌, ◌==◌, ◌&&◌, nat_le, ℕ, suc, max, Bool, true, false, List, [], ◌∷◌, ◌++◌, map, flat_map, take, length, All, Option, Some, None, IfSome, unwrap_or, option_map, slice_get, refl, sym, ap, subst, arith, if◌then◌else◌, Result, Ok, Err}
+use Rattle.std.proofs.Common.{◌≡◌, ◌⊎◌, inl, inr, ◌≤◌, ◌==◌, ◌&&◌, nat_le, ℕ, suc, max, Bool, true, false, List, [], ◌∷◌, ◌++◌, map, take, length, All, Option, Some, None, unwrap_or, option_map, refl, sym, ap, arith, if◌then◌else◌, Result, Ok, Err}
 use Rattle.std.proofs.Math.Nat.{le-max_left, le-max_right, max-le}
 use Rattle.store_traits.specs.declared.ids.CallId.{CallId}
 use Rattle.store_traits.specs.declared.ids.ClientId.{ClientId}

@@ -1,5 +1,5 @@
 -- What a turn of a call leaves where no node has died: entries of its own, and the lock with it, free or as it was.
-use Rattle.std.proofs.Common.{◌≡◌, ◌∙◌, ◌⊎◌, inl, inr, ◌+◌, ◌==◌, ℕ, Bool, true, false, ◌&&◌, ◌||◌, List, [], ◌∷◌, ◌++◌, map, drop, length, Option, Some, None, IfSome, unwrap_or, append_assoc, append-nil, refl, sym, ap, arith, if◌then◌else◌, Result, Ok, Err}
+use Rattle.std.proofs.Common.{◌≡◌, ◌∙◌, ◌⊎◌, inl, inr, ◌==◌, ℕ, Bool, true, false, ◌||◌, List, [], ◌∷◌, ◌++◌, map, drop, length, Option, Some, None, IfSome, unwrap_or, append_assoc, append-nil, refl, sym, ap, arith, if◌then◌else◌, Result, Ok, Err}
 use Rattle.std.specs.List.{list_any}
 use Rattle.std.specs.Option.{option_or}
 use Rattle.std.proofs.lemmas.Bool.{eq-eqb}
@@ -12,7 +12,7 @@ use Rattle.folder_disk.specs.Contents.{Contents}
 use Rattle.hist_journal.specs.declared.device.Device.TheVariants.{Folder}
 use Rattle.hist_journal.specs.declared.seen.EntrySeen.{EntrySeen}
 use Rattle.hist_journal.specs.declared.seen.KindSeen.{KindSeen}
-use Rattle.hist_journal.specs.declared.seen.KindSeen.TheVariants.{Raise, Edit, Same, Synced, Fault, Death, Inited}
+use Rattle.hist_journal.specs.declared.seen.KindSeen.TheVariants.{Raise, Fault, Death, Inited}
 use Rattle.hist_journal.specs.Folds.{edition_of}
 use Rattle.hist_journal.specs.Nodes.{is_ready, last_mark, ready_mark, mark_if}
 use Rattle.hist_journal.specs.Kinds.{is_call, is_node}
@@ -21,8 +21,7 @@ use Rattle.shelf.specs.declared.progress.Progress.{Progress}
 use Rattle.shelf.specs.declared.progress.Progress.TheVariants.{Moved, Blocked, Ended}
 use Rattle.shelf.specs.declared.store.Store.{Store}
 use Rattle.shelf.specs.ApplyRow.{Applies}
-use Rattle.shelf.specs.Calls.{At, Call, Changed, Kept, First, ReadingFirst, Migrating, Finishing, Reading, Raising, Creating, Appending, SyncingScratch, Renaming, SyncingFolder, Gone, Plan, is_first, is_gone}
-use Rattle.shelf.specs.Deaths.{strikes}
+use Rattle.shelf.specs.Calls.{At, First, ReadingFirst, Migrating, Finishing, Reading, Raising, Creating, Appending, SyncingScratch, Renaming, SyncingFolder, Gone, Plan, is_first, is_gone}
 use Rattle.shelf.specs.Effects.{Does, DoesLast, Fails, Stops, freed, is_ready_now, with_entries}
 use Rattle.shelf.specs.Endings.{synced_kinds}
 use Rattle.shelf.specs.Entries.{is_death}
@@ -34,7 +33,6 @@ use Rattle.shelf.specs.World.{Rules, World, Turned}
 use Rattle.shelf.specs.WriteRows.{piece_written}
 use Rattle.shelf.proofs.Bools.{never}
 use Rattle.shelf.proofs.DeathLemmas.{has_not_died}
-use Rattle.shelf.proofs.LedgerLemmas.{freed_own}
 use Rattle.shelf.proofs.StepLemmas.{ended_leaves, itself}
 use Rattle.node_core.specs.Knows.{Knows}
 use Rattle.node_core.specs.Phases.{is_finishing, is_holding}

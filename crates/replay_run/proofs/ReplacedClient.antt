@@ -1,15 +1,14 @@
 -- What holds of the clients once one of them is another.
-use Rattle.std.proofs.Common.{◌≡◌, ◌∙◌, inl, inr, ◌≤◌, ◌==◌, ℕ, Bool, true, false, ◌&&◌, List, All, Option, Some, None, slice_get, slice_set, refl, sym, ap, arith}
+use Rattle.std.proofs.Common.{◌≡◌, ◌∙◌, ◌≤◌, ◌==◌, ℕ, Bool, true, false, ◌&&◌, List, All, Option, Some, slice_get, slice_set, refl, sym, arith}
 use Rattle.std.proofs.lemmas.Bool.{eq-eqb, eqb-true}
 use Rattle.std.proofs.lemmas.List.Elements.{All-weaker}
 use Rattle.store_traits.specs.declared.ids.CallId.{CallId}
 use Rattle.hist_journal.specs.declared.seen.EntrySeen.{EntrySeen}
 use Rattle.hist_journal.specs.Kinds.{is_call}
-use Rattle.shelf.specs.Calls.{Call}
 use Rattle.shelf.proofs.Bools.{both_parts, never}
 use Rattle.replay_run.specs.Scene.{Client}
 use Rattle.replay_run.specs.SceneKeeps.{HasOwner, IsOfCall}
-use Rattle.replay_run.proofs.SetLemmas.{found_then, others_found, set_found}
+use Rattle.replay_run.proofs.SetLemmas.{others_found, set_found}
 
 pub one_of_it : {X : Type 0} (found : Option X) (x y : X) → found ≡ Some x → found ≡ Some y → x ≡ y
 one_of_it {X = X} found x y first second = let both : ◌≡◌ {A = Option X} (Some x) (Some y) = sym first ∙ second in cc

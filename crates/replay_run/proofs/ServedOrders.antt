@@ -1,7 +1,6 @@
 -- In the end of a run the clients have been asked for what the orders say.
-use Rattle.std.proofs.Common.{◌≡◌, ◌∙◌, ◌⊎◌, inl, inr, ◌+◌, ◌==◌, ℕ, suc, zero, Bool, true, false, List, [], ◌∷◌, ◌++◌, append_assoc, append-nil, flat_map, map, Option, Some, None, slice_get, slice_set, refl, sym, ap, subst, arith, if◌then◌else◌, Result}
-use Rattle.std.specs.List.{enumerate_from}
-use Rattle.std.proofs.lemmas.Bool.{eq-eqb, eqb-true}
+use Rattle.std.proofs.Common.{◌≡◌, ◌∙◌, inl, inr, ◌+◌, ◌==◌, ℕ, suc, zero, Bool, true, false, List, [], ◌∷◌, ◌++◌, append_assoc, append-nil, Option, Some, None, slice_get, refl, sym, ap, subst, if◌then◌else◌, Result}
+use Rattle.std.proofs.lemmas.Bool.{eq-eqb}
 use Rattle.std.proofs.lemmas.List.Concat.{flat_map-append}
 use Rattle.store_traits.specs.declared.ids.NodeId.{NodeId}
 use Rattle.store_traits.specs.declared.update_error.UpdateError.{UpdateError}
@@ -11,10 +10,9 @@ use Rattle.shelf.specs.declared.store.Store.{Store}
 use Rattle.shelf.specs.Calls.{Call}
 use Rattle.shelf.specs.World.{Rules}
 use Rattle.replay_run.specs.Order.{Adds, AreServed, Does, DoesAll, Go, GoesTimes, IsServed, Order, Task, Update, edits_for, task_edits, with_edit}
-use Rattle.replay_run.specs.Run.{GoesEach, IsRun, Rounds, new_client, new_clients}
+use Rattle.replay_run.specs.Run.{GoesEach, IsRun, Rounds, new_clients}
 use Rattle.replay_run.specs.Scene.{Client, Scene}
-use Rattle.replay_run.specs.Step.{Goes, Rests, Steps, at_work, begin_next, behind_turn}
-use Rattle.replay_run.proofs.LineLemmas.{nothing, one_of}
+use Rattle.replay_run.specs.Step.{Goes, at_work, begin_next, behind_turn}
 use Rattle.replay_run.proofs.SetLemmas.{found_then}
 use Rattle.replay_run.proofs.StepKeeps.{new_from}
 use Rattle.replay_run.proofs.TurnKeeps.{unequal}
@@ -43,12 +41,12 @@ module _ {V T M : Type 0} (r : Rules V T) (s : Store V M) (homes : List NodeId) 
       λ other c found.
       elim (found_then old.clients place other steps.client_after c (subst (λ cs. slice_get cs other ≡ Some c) steps.now found)) [
         | inl here ↦ (let acts = steps.acts in
-          let begun = begins_same steps.client steps.client.running (slice_get steps.client.edits steps.client.begun) in
-          let turned = turn_same (at_work steps.client) acts.call acts.gave acts.call_after in
-          let after : c ≡ behind_turn (at_work steps.client) acts.call acts.gave acts.call_after = here.1 ∙ acts.now in
-          let was : IsServed homes orders place steps.client = served place steps.client steps.was in
-          subst (λ p. IsServed homes orders p c) (sym here.0)
-          (served_as homes orders place steps.client c (ap (λ (x : Client V T). x.node) after ∙ (turned.0 ∙ begun.0)) (ap (λ (x : Client V T). x.edits) after ∙ (turned.1 ∙ begun.1)) was))
+            let begun = begins_same steps.client steps.client.running (slice_get steps.client.edits steps.client.begun) in
+            let turned = turn_same (at_work steps.client) acts.call acts.gave acts.call_after in
+            let after : c ≡ behind_turn (at_work steps.client) acts.call acts.gave acts.call_after = here.1 ∙ acts.now in
+            let was : IsServed homes orders place steps.client = served place steps.client steps.was in
+            subst (λ p. IsServed homes orders p c) (sym here.0)
+            (served_as homes orders place steps.client c (ap (λ (x : Client V T). x.node) after ∙ (turned.0 ∙ begun.0)) (ap (λ (x : Client V T). x.edits) after ∙ (turned.1 ∙ begun.1)) was))
         | inr there ↦ served other c there.1
       ]
 
@@ -72,16 +70,16 @@ module _ {V T M : Type 0} (r : Rules V T) (s : Store V M) (homes : List NodeId) 
       λ other c found.
       elim (found_then old.clients place other (with_edit edit it.client) c (subst (λ (scene : Scene V T). slice_get scene.clients other ≡ Some c) it.now found)) [
         | inl here ↦ (let was : IsServed homes orders place it.client = served place it.client it.was in
-          let same : (place == other) ≡ true = eq-eqb place other (sym here.0) in
-          record {
-            home = ap (λ p. slice_get homes p) here.0 ∙ (was.home ∙ ap (λ (x : Client V T). Some x.node) (sym here.1));
-            edits =
-                ap (λ (x : Client V T). x.edits) here.1
-                ∙ (ap (λ es. es ++ edit ∷ []) (was.edits ∙ ap (λ p. edits_for p orders) (sym here.0)) ∙ sym (one_more other orders (record { place = place; task = Update edit }) ∙ rw same refl));
-          })
+            let same : (place == other) ≡ true = eq-eqb place other (sym here.0) in
+            record {
+              home = ap (λ p. slice_get homes p) here.0 ∙ (was.home ∙ ap (λ (x : Client V T). Some x.node) (sym here.1));
+              edits =
+                  ap (λ (x : Client V T). x.edits) here.1
+                  ∙ (ap (λ es. es ++ edit ∷ []) (was.edits ∙ ap (λ p. edits_for p orders) (sym here.0)) ∙ sym (one_more other orders (record { place = place; task = Update edit }) ∙ rw same refl));
+            })
         | inr there ↦ (let was = served other c there.1 in
-          let apart : (place == other) ≡ false = unequal place other (λ same. there.0 (sym same)) in
-          record { home = was.home; edits = was.edits ∙ sym (one_more other orders (record { place = place; task = Update edit }) ∙ rw apart (append-nil (edits_for other orders))) })
+            let apart : (place == other) ≡ false = unequal place other (λ same. there.0 (sym same)) in
+            record { home = was.home; edits = was.edits ∙ sym (one_more other orders (record { place = place; task = Update edit }) ∙ rw apart (append-nil (edits_for other orders))) })
       ]
 
   goes_more : (orders : List (Order T)) (place steps : ℕ) (scene : Scene V T) → AreServed homes orders scene → AreServed homes (orders ++ record { place = place; task = Go steps } ∷ []) scene

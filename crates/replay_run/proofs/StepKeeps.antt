@@ -1,16 +1,16 @@
 -- What a run keeps: at the start, with each step of a client, and with each call that it is asked for.
-use Rattle.std.proofs.Common.{◌≡◌, ◌∙◌, inl, inr, ◌+◌, ℕ, suc, zero, false, List, [], ◌∷◌, ◌++◌, map, length, Option, Some, None, slice_get, slice_set, refl, sym, ap, subst, arith}
+use Rattle.std.proofs.Common.{◌≡◌, ◌∙◌, inl, inr, ◌+◌, ℕ, suc, zero, List, [], ◌∷◌, ◌++◌, map, Option, Some, None, slice_get, slice_set, refl, sym, ap, subst, arith}
 use Rattle.std.specs.List.{enumerate_from}
 use Rattle.std.proofs.lemmas.List.Elements.{All-nil}
 use Rattle.store_traits.specs.declared.ids.NodeId.{NodeId}
 use Rattle.shelf.specs.declared.store.Store.{Store}
-use Rattle.shelf.specs.World.{Begins, Rules, World}
+use Rattle.shelf.specs.World.{Begins, Rules}
 use Rattle.replay_run.specs.ClientKeeps.{KeepsClient}
-use Rattle.replay_run.specs.Order.{Adds, with_edit}
+use Rattle.replay_run.specs.Order.{Adds}
 use Rattle.replay_run.specs.Run.{new_client, new_clients}
 use Rattle.replay_run.specs.Scene.{Client, Scene}
 use Rattle.replay_run.specs.SceneKeeps.{IsOfCall, SceneKeeps, ShelfKeeps}
-use Rattle.replay_run.specs.Step.{Goes, Rests, Steps, at_work, behind_turn}
+use Rattle.replay_run.specs.Step.{Goes, Steps, at_work, behind_turn}
 use Rattle.replay_run.proofs.BeginKeeps.{adds_keeps, begins_keeps}
 use Rattle.replay_run.proofs.SetLemmas.{set_found, set_twice}
 use Rattle.replay_run.proofs.TurnKeeps.{turn_keeps_scene}
@@ -51,7 +51,7 @@ module _ {V T M : Type 0} (r : Rules V T) (s : Store V M) where
       let there : slice_get (slice_set old.clients place client) place ≡ Some client = set_found old.clients place client it.client it.was in
       let kept = turn_keeps_scene r s (record old { clients = slice_set old.clients place client }) place client acts.call acts.call_after new.world acts.gave there acts.works acts.turn acts.memory acts.unfailed begun shelf in
       let clients : new.clients ≡ slice_set (slice_set old.clients place client) place (behind_turn client acts.call acts.gave acts.call_after) =
-          it.now ∙ (ap (λ c. slice_set old.clients place c) acts.now ∙ sym (set_twice old.clients place client (behind_turn client acts.call acts.gave acts.call_after))) in
+      it.now ∙ (ap (λ c. slice_set old.clients place c) acts.now ∙ sym (set_twice old.clients place client (behind_turn client acts.call acts.gave acts.call_after))) in
       subst (λ c. SceneKeeps r s (record { world = new.world; clients = c })) (sym clients) kept
 
   pub goes_keep : (place : ℕ) (old new : Scene V T) → Goes r s place old new → ShelfKeeps r s old.world → SceneKeeps r s old → SceneKeeps r s new

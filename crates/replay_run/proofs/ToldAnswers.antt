@@ -1,6 +1,5 @@
 -- Whose answer a line of the transcript is.
-use Rattle.std.proofs.Common.{◌≡◌, ◌∙◌, ◌⊎◌, inl, inr, ◌<◌, ◌+◌, ℕ, suc, zero, List, [], ◌∷◌, ◌++◌, map, flat_map, length, length-append, All, Option, Some, None, append_assoc, slice_get, refl, sym, ap, arith}
-use Rattle.std.proofs.lemmas.List.Elements.{All-append, All-cons, All-nil, All-weaker}
+use Rattle.std.proofs.Common.{◌≡◌, ◌∙◌, ◌⊎◌, inl, inr, List, [], ◌∷◌, ◌++◌, map, flat_map, Option, Some, append_assoc, refl, sym, ap}
 
 -- an element of two lists joined is of the second, or of the first
 record InFirst {Y : Type 0} (xs front : List Y) (y : Y) : Type 0 where
@@ -42,16 +41,16 @@ split_all {X = X} {Y = Y} f (x ∷ xs) front y behind is =
     elim (split_joined (f x) (flat_map f xs) front y behind is) [
       | inl first ↦ (record { earlier = []; one = x; later = xs; within = front; behind = first.behind; is = refl; there = first.is; before = refl })
       | inr second ↦ (let deeper = split_all f xs second.rest y second.behind second.is in
-        record {
-          earlier = x ∷ deeper.earlier;
-          one = deeper.one;
-          later = deeper.later;
-          within = deeper.within;
-          behind = deeper.behind;
-          is = ap (λ more. x ∷ more) deeper.is;
-          there = deeper.there;
-          before = second.before ∙ (ap (λ more. f x ++ more) deeper.before ∙ sym (append_assoc (f x) (flat_map f deeper.earlier) deeper.within));
-        })
+          record {
+            earlier = x ∷ deeper.earlier;
+            one = deeper.one;
+            later = deeper.later;
+            within = deeper.within;
+            behind = deeper.behind;
+            is = ap (λ more. x ∷ more) deeper.is;
+            there = deeper.there;
+            before = second.before ∙ (ap (λ more. f x ++ more) deeper.before ∙ sym (append_assoc (f x) (flat_map f deeper.earlier) deeper.within));
+          })
     ]
 
 -- an element of a list that reads as another list, element by element

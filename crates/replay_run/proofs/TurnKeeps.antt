@@ -1,7 +1,7 @@
 -- A scene keeps what it keeps as a call that runs takes a turn.
-use Rattle.std.proofs.Common.{◌≡◌, ◌∙◌, ◌⊎◌, inl, inr, ◌≤◌, ◌<◌, ◌+◌, ◌==◌, ◌&&◌, ◌||◌, ℕ, nat_le, Bool, true, false, List, All, [], ◌∷◌, ◌++◌, length, length-append, Option, Some, None, IfSome, append_assoc, slice_get, slice_set, slice_index_or, refl, sym, ap, subst, arith, Result, Ok, Err}
+use Rattle.std.proofs.Common.{◌≡◌, ◌∙◌, inl, inr, ◌≤◌, ◌<◌, ◌+◌, ◌==◌, ◌&&◌, ◌||◌, ℕ, nat_le, Bool, true, false, List, All, [], ◌∷◌, ◌++◌, length, length-append, Option, Some, None, IfSome, append_assoc, slice_get, slice_set, slice_index_or, refl, sym, ap, subst, arith, Result, Ok, Err}
 use Rattle.std.specs.List.{list_any}
-use Rattle.std.proofs.lemmas.Bool.{eqb-true, eq-eqb}
+use Rattle.std.proofs.lemmas.Bool.{eqb-true}
 use Rattle.std.proofs.lemmas.Bool.Decides.{nat_tests}
 use Rattle.std.proofs.lemmas.List.Elements.{All-append, All-map}
 use Rattle.std.proofs.lemmas.List.Folds.{list_any-append}
@@ -22,15 +22,13 @@ use Rattle.shelf.specs.Calls.{At, Call, First, SyncingFolder, Changed, Kept, is_
 use Rattle.shelf.specs.Entries.{is_any, is_own}
 use Rattle.shelf.specs.Meanwhile.{NoneOf}
 use Rattle.shelf.specs.Places.{is_up_to}
-use Rattle.shelf.specs.Turn.{Turn, begin, has_died_by}
+use Rattle.shelf.specs.Turn.{Turn}
 use Rattle.shelf.specs.World.{Rules, Turned, World}
 use Rattle.shelf.proofs.Bools.{never, or_either}
 use Rattle.shelf.proofs.DeathLemmas.{has_not_died}
 use Rattle.shelf.proofs.StepLemmas.{itself, turn_waits}
-use Rattle.node_core.specs.Between.{Between}
-use Rattle.node_core.specs.Knows.{Knows}
 use Rattle.node_core.specs.Own.{HasChanged, IsFor}
-use Rattle.node_core.specs.Phases.{is_finishing, is_holding}
+use Rattle.node_core.specs.Phases.{is_finishing}
 use Rattle.node_core.proofs.Acknowledging.{update_is_acknowledged}
 use Rattle.node_core.proofs.BetweenLemmas.{between_keeps_knowledge}
 use Rattle.node_core.proofs.CauseOfAnswers.{error_has_cause}
@@ -203,8 +201,8 @@ module _ {V T M : Type 0} (r : Rules V T) (s : Store V M) where
           elim (or_either client.initialised (is_finishing call.at) is) [
             | inl before ↦ ready_after before
             | inr finishing ↦ (let node : call.id.node ≡ client.node = ap (λ (id : CallId). id.node) kept.id in
-              let ready : is_ready call.id.node world_after.history ≡ true = finishing_readies r s turned keeps.alive keeps.unplanned it finishing in
-              rw node at ready)
+                let ready : is_ready call.id.node world_after.history ≡ true = finishing_readies r s turned keeps.alive keeps.unplanned it finishing in
+                rw node at ready)
           ]
 
       call_moved : Turn r s turned Moved → KeepsCall r s (behind_turn client call Moved call_after) world_after call_after
@@ -307,9 +305,9 @@ module _ {V T M : Type 0} (r : Rules V T) (s : Store V M) where
           let it : HasOwner scene.clients id = subst (λ o. IfSome o (HasOwner scene.clients)) owned keeps.owner in
           owner_apart scene.clients place client now found id it
           (λ here.
-            let same_client : it.client ≡ client = one_of_it (slice_get scene.clients place) it.client client (rw (← here) it.found) found in
-            let same_call : it.call ≡ call = one_of_it client.running it.call call (ap (λ (c : Client V T). c.running) (sym same_client) ∙ it.runs) runs in
-            unlike (it.own ∙ ap (λ (c : Call V T). c.id) same_call))
+          let same_client : it.client ≡ client = one_of_it (slice_get scene.clients place) it.client client (rw (← here) it.found) found in
+          let same_call : it.call ≡ call = one_of_it client.running it.call call (ap (λ (c : Client V T). c.running) (sym same_client) ∙ it.runs) runs in
+          unlike (it.own ∙ ap (λ (c : Call V T). c.id) same_call))
 
       owner_by : (o : Option CallId) → world_after.owner ≡ o → IfSome o (HasOwner (slice_set scene.clients place now))
       owner_by None is = tt

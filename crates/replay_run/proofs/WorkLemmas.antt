@@ -1,13 +1,11 @@
 -- Each step that is not blocked leaves the clients less to do, and in each round somebody does one.
-use Rattle.std.proofs.Common.{◌≡◌, ◌≢◌, ◌∙◌, ◌⊎◌, inl, inr, ◌≤◌, ◌<◌, ◌+◌, ◌-◌, ◌*◌, ◌==◌, ◌||◌, ℕ, suc, zero, Bool, true, false, List, [], ◌∷◌, length, Option, Some, None, IfSome, is_some, slice_get, slice_set, slice_index_or, sum_by, refl, sym, ap, subst, arith, Result}
-use Rattle.std.specs.List.{list_any}
+use Rattle.std.proofs.Common.{◌≡◌, ◌≢◌, ◌∙◌, ◌⊎◌, inl, inr, ◌<◌, ◌+◌, ◌-◌, ◌*◌, ◌==◌, ◌||◌, ℕ, suc, Bool, true, false, length, Option, Some, None, IfSome, is_some, slice_get, slice_set, slice_index_or, refl, sym, ap, subst, arith, Result}
 use Rattle.std.proofs.Math.Nat.{suc-mul}
 use Rattle.std.proofs.lemmas.Bool.{eq-eqb, eqb-true}
 use Rattle.std.proofs.lemmas.List.Folds.{list_any_none}
 use Rattle.std.proofs.lemmas.Option.{slice_get-get_or, slice_get_within}
 use Rattle.store_traits.specs.declared.ids.CallId.{CallId}
 use Rattle.store_traits.specs.declared.update_error.UpdateError.{UpdateError}
-use Rattle.hist_journal.specs.Nodes.{is_ready}
 use Rattle.shelf.specs.declared.progress.Progress.{Progress}
 use Rattle.shelf.specs.declared.progress.Progress.TheVariants.{Moved, Blocked, Ended}
 use Rattle.shelf.specs.declared.store.Store.{Store}
@@ -23,7 +21,7 @@ use Rattle.replay_run.specs.ClientKeeps.{KeepsCall, KeepsRunning}
 use Rattle.replay_run.specs.Run.{IsOver}
 use Rattle.replay_run.specs.Scene.{Client, Scene}
 use Rattle.replay_run.specs.SceneKeeps.{HasOwner, SceneKeeps}
-use Rattle.replay_run.specs.Step.{Goes, Rests, Steps, at_work, begin_next, behind_turn, has_work}
+use Rattle.replay_run.specs.Step.{Goes, Steps, at_work, begin_next, behind_turn, has_work}
 use Rattle.replay_run.specs.WorkLeft.{IsStill, RoundSoFar, Waits, client_left, work_left}
 use Rattle.replay_run.proofs.BeginKeeps.{begins_keeps}
 use Rattle.replay_run.proofs.OwnTurns.{waits_same}
@@ -81,29 +79,29 @@ module _ {V T M : Type 0} (r : Rules V T) (s : Store V M) where
   left client = client_left s.limits.file client
 
   module _ (scene : Scene V T) (place : ℕ) (client : Client V T) (call call_after : Call V T) (world_after : World V T) (found : slice_get scene.clients place ≡ Some client) (runs : client.running ≡ Some call) (keeps : SceneKeeps r s scene)
-      where
-    abbrev turned : Turned V T
-    turned = record { world = scene.world; call = call; world_after = world_after; call_after = call_after }
+    where
+      abbrev turned : Turned V T
+      turned = record { world = scene.world; call = call; world_after = world_after; call_after = call_after }
 
-    kept : KeepsCall r s client scene.world call
-    kept = subst (λ o. KeepsRunning r s client scene.world o) runs (keeps.clients place client found).running
+      kept : KeepsCall r s client scene.world call
+      kept = subst (λ o. KeepsRunning r s client scene.world o) runs (keeps.clients place client found).running
 
-    moved_left : Turn r s turned Moved → left (behind_turn client call Moved call_after) < left client
-    moved_left it =
-        let node : call.id.node ≡ client.node = ap (λ (id : CallId). id.node) kept.id in
-        let less : steps_left s.limits.file (client.initialised || is_finishing call.at) call_after.at < steps_left s.limits.file client.initialised call.at =
-            turn_steps r s client.initialised turned it kept.knows (λ ready first. rw node (kept.ready ready)) in
-        rw runs (omega (arith, less))
+      moved_left : Turn r s turned Moved → left (behind_turn client call Moved call_after) < left client
+      moved_left it =
+          let node : call.id.node ≡ client.node = ap (λ (id : CallId). id.node) kept.id in
+          let less : steps_left s.limits.file (client.initialised || is_finishing call.at) call_after.at < steps_left s.limits.file client.initialised call.at =
+          turn_steps r s client.initialised turned it kept.knows (λ ready first. rw node (kept.ready ready)) in
+          rw runs (omega (arith, less))
 
-    ended_left : (answer : Result ℕ UpdateError) → left (behind_turn client call (Ended answer) call_after) < left client
-    ended_left answer = rw runs (omega (arith, some_left s.limits.file client.initialised call.at kept.goes_on))
+      ended_left : (answer : Result ℕ UpdateError) → left (behind_turn client call (Ended answer) call_after) < left client
+      ended_left answer = rw runs (omega (arith, some_left s.limits.file client.initialised call.at kept.goes_on))
 
-    waits_left : Turn r s turned Blocked → left (behind_turn client call Blocked call_after) ≡ left client
-    waits_left it =
-        let waits = waits_same r s turned keeps.alive keeps.unplanned it in
-        let at : call_after.at ≡ call.at = ap (λ (c : Call V T). c.at) waits.call in
-        let same : (client.initialised || is_finishing call.at) ≡ client.initialised = or_none client.initialised (is_finishing call.at) (first_not_finishing call.at (turn_waits r s turned it).2) in
-        rw (runs, at, same) refl
+      waits_left : Turn r s turned Blocked → left (behind_turn client call Blocked call_after) ≡ left client
+      waits_left it =
+          let waits = waits_same r s turned keeps.alive keeps.unplanned it in
+          let at : call_after.at ≡ call.at = ap (λ (c : Call V T). c.at) waits.call in
+          let same : (client.initialised || is_finishing call.at) ≡ client.initialised = or_none client.initialised (is_finishing call.at) (first_not_finishing call.at (turn_waits r s turned it).2) in
+          rw (runs, at, same) refl
 
   -- a step that is blocked leaves the work and the world, any other leaves less to do
   abbrev FallsOrWaits : (old new : Scene V T) → Progress (Result ℕ UpdateError) → Type 0
@@ -212,12 +210,12 @@ module _ {V T M : Type 0} (r : Rules V T) (s : Store V M) where
       still_on (inl steps) still =
           elim (steps_fall place now after steps keeps) [
             | inl waits ↦ (inr
-              (record {
-                world = waits.1 ∙ still.world;
-                work = waits.2 ∙ still.work;
-                others = λ other later. ap (λ c. slice_get c other) steps.now ∙ (others_found now.clients place other steps.client_after (λ same. omega (arith, later, same)) ∙ still.others other (omega (arith, later)));
-                waited = waited_so steps.client steps.was (inr (moved_waits (blocked_waits place now after steps keeps waits.0))) still;
-              }))
+                (record {
+                  world = waits.1 ∙ still.world;
+                  work = waits.2 ∙ still.work;
+                  others = λ other later. ap (λ c. slice_get c other) steps.now ∙ (others_found now.clients place other steps.client_after (λ same. omega (arith, later, same)) ∙ still.others other (omega (arith, later)));
+                  waited = waited_so steps.client steps.was (inr (moved_waits (blocked_waits place now after steps keeps waits.0))) still;
+                }))
             | inr falls ↦ inl (omega (arith, falls, still.work))
           ]
         where
@@ -237,11 +235,11 @@ module _ {V T M : Type 0} (r : Rules V T) (s : Store V M) where
             elim (still.waited place client (slice_get_within start.clients place client found) found) [
               | inl nothing ↦ nothing
               | inr waits ↦ (let owner : HasOwner start.clients waits.owner = subst (λ o. IfSome o (HasOwner start.clients)) waits.owned keeps.owner in
-                absurd
-                (elim (still.waited owner.place owner.client (slice_get_within start.clients owner.place owner.client owner.found) owner.found) [
-                  | inl nothing ↦ never (sym nothing ∙ ap (λ o. is_some o) (work_runs owner.client owner.call owner.runs))
-                  | inr others ↦ never (sym (others.holds_none owner.call owner.runs) ∙ owner.holds)
-                ]))
+                  absurd
+                  (elim (still.waited owner.place owner.client (slice_get_within start.clients owner.place owner.client owner.found) owner.found) [
+                    | inl nothing ↦ never (sym nothing ∙ ap (λ o. is_some o) (work_runs owner.client owner.call owner.runs))
+                    | inr others ↦ never (sym (others.holds_none owner.call owner.runs) ∙ owner.holds)
+                  ]))
             ]
 
         nobody : IsStill s.limits.file start (length start.clients) now → IsOver start

@@ -1,5 +1,5 @@
 -- How many turns the clients have left at most, where none of them is blocked.
-use Rattle.std.specs.Prelude.{◌≡◌, ◌⊎◌, ◌≤◌, ◌<◌, ℕ, ◌+◌, ◌-◌, ◌*◌, Bool, true, false, Option, Some, None, length, slice_get, sum_by}
+use Rattle.std.specs.Prelude.{◌≡◌, ◌⊎◌, ◌≤◌, ◌<◌, ℕ, ◌+◌, ◌-◌, ◌*◌, Bool, false, Option, Some, None, length, slice_get, sum_by}
 use Rattle.store_traits.specs.declared.ids.CallId.{CallId}
 use Rattle.shelf.specs.Calls.{Call}
 use Rattle.node_core.specs.Phases.{is_holding}

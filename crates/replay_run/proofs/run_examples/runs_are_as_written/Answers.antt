@@ -4,24 +4,6 @@ use Rattle.hist_journal.specs.Nodes.{is_dead, is_ready, last_mark}
 use Rattle.shelf.specs.Deaths.{last_death, used_up}
 use Rattle.shelf.specs.ExampleStore.{empty, holds_one, n1, n2}
 use Rattle.replay_run.specs.RunExamples as runs
-use Rattle.replay_run.specs.ScriptRun.{Runs}
-use Rattle.replay_run.specs.SceneKeeps.{SceneKeeps}
-use Rattle.replay_run.specs.WorkLeft.{work_left}
-use Rattle.replay_run.proofs.SetLemmas.{set_twice}
-use Rattle.replay_run.proofs.GoodCalls as calls
-use Rattle.replay_run.proofs.AskedLemmas as asked
-use Rattle.replay_run.proofs.ServedOrders as served
-use Rattle.replay_run.proofs.GoodHistory as history
-use Rattle.replay_run.proofs.GoodSession as good
-use Rattle.replay_run.proofs.LineLemmas as line
-use Rattle.replay_run.proofs.ToldAnswers as told
-use Rattle.replay_run.proofs.WorkLemmas as work
-use Rattle.replay_run.proofs.StepKeeps as steps
-use Rattle.replay_run.proofs.TurnKeeps as turn
-use Rattle.replay_run.proofs.BeginKeeps as begin
-use Rattle.replay_run.proofs.ReplacedClient.{same_call}
-use Rattle.replay_run.proofs.AnswerLemmas.{answers_more}
-use Rattle.replay_run.proofs.OwnTurns.{turn_adds_own}
 use Rattle.replay_run.proofs.PlayedRuns.{IsRun-computed}
 use Rattle.replay_run.proofs.run_examples.runs_are_as_written.Goals as goal
 
