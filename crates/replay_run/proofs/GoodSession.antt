@@ -1,6 +1,6 @@
 -- The rules of a transcript that tells the truth, which its run keeps in a session.
-use Rattle.std.proofs.Common.{◌≡◌, ◌∙◌, ◌≤◌, ◌==◌, ℕ, suc, zero, false, List, [], ◌∷◌, ◌++◌, map, flat_map, length, All, Option, Some, None, IfSome, append_assoc, slice_get, refl, sym, ap, subst, arith, Result}
-use Rattle.std.proofs.lemmas.List.Elements.{All-append, All-cons, All-nil}
+use Rattle.std.proofs.Common.{◌≡◌, ◌∙◌, ◌≤◌, ◌<◌, ◌==◌, ℕ, suc, zero, false, List, [], ◌∷◌, ◌++◌, map, flat_map, length, All, Option, Some, None, IfSome, append_assoc, slice_get, refl, sym, ap, subst, arith, Result}
+use Rattle.std.proofs.lemmas.List.Elements.{All-append, All-cons, All-nil, All-weaker}
 use Rattle.std.proofs.lemmas.Option.{IfSome_then, slice_get_within}
 use Rattle.store_traits.specs.declared.ids.CallId.{CallId}
 use Rattle.store_traits.specs.declared.update_error.UpdateError.{UpdateError}
@@ -26,7 +26,7 @@ all_flat : {X Y : Type 0} (P : Y → Type 0) (f : X → List Y) (xs : List X) �
 all_flat P f [] all = All-nil P
 all_flat P f (x ∷ xs) all = All-append P (f x) (flat_map f xs) (all 0 x refl) (all_flat P f xs (λ place y found. all (suc place) y found))
 
-all_each : {X : Type 0} (P : X → Type 0) (before list : List X) → ((front : List X) (x : X) (behind : List X) → before ++ list ≡ front ++ x ∷ behind → P x) → All P list
+pub all_each : {X : Type 0} (P : X → Type 0) (before list : List X) → ((front : List X) (x : X) (behind : List X) → before ++ list ≡ front ++ x ∷ behind → P x) → All P list
 all_each P before [] each = All-nil P
 all_each P before (x ∷ xs) each = All-cons P x xs (each before x xs refl) (all_each P (before ++ x ∷ []) xs (λ front y behind is. each front y behind (sym (append_assoc before (x ∷ []) xs) ∙ is)))
 
@@ -62,18 +62,18 @@ module _ (b : Basis) (c : Chapter) (end : Scene (List PrefPair) (List EditStep))
     pub there : client.answered ≡ within ++ a ∷ behind
     pub tells_it : Reads line a
     pub lines : map answered_of before ≡ map (λ x. Some x) (flat_map (λ x. x.answered) earlier ++ within)
-    pub apart : All (λ (x : Answered). (length earlier == x.call.client.0) ≡ false) (flat_map (λ x. x.answered) earlier)
+    pub before_it : All (λ (x : Answered). x.call.client.0 < length earlier) (flat_map (λ x. x.answered) earlier)
 
-  apart_from : (earlier : List (Client (List PrefPair) (List EditStep))) (one : Client (List PrefPair) (List EditStep)) (later : List (Client (List PrefPair) (List EditStep))) → end.clients ≡ earlier ++ one ∷ later
-      → All (λ (x : Answered). (length earlier == x.call.client.0) ≡ false) (flat_map (λ x. x.answered) earlier)
-  apart_from earlier one later is =
-      all_flat (λ (x : Answered). (length earlier == x.call.client.0) ≡ false) (λ x. x.answered) earlier
+  up_to_from : (earlier : List (Client (List PrefPair) (List EditStep))) (one : Client (List PrefPair) (List EditStep)) (later : List (Client (List PrefPair) (List EditStep))) → end.clients ≡ earlier ++ one ∷ later
+      → All (λ (x : Answered). x.call.client.0 < length earlier) (flat_map (λ x. x.answered) earlier)
+  up_to_from earlier one later is =
+      all_flat (λ (x : Answered). x.call.client.0 < length earlier) (λ x. x.answered) earlier
       (λ place client found.
-      let kept : KeepsClient b.rules c.store place end.world client = keeps.clients place client (rw is (found_in_front earlier one later place client found)) in
-      all_each (λ (x : Answered). (length earlier == x.call.client.0) ≡ false) [] client.answered
-      (λ front a behind there.
-      let own : a.call.client.0 ≡ place = ap (λ (id : CallId). id.client.0) (kept.answers front a behind there).call ∙ kept.id in
-      unequal (length earlier) a.call.client.0 (λ same. omega (arith, same, own, slice_get_within earlier place client found))))
+        let kept : KeepsClient b.rules c.store place end.world client = keeps.clients place client (rw is (found_in_front earlier one later place client found)) in
+        all_each (λ (x : Answered). x.call.client.0 < length earlier) [] client.answered
+        (λ front a behind there.
+          let own : a.call.client.0 ≡ place = ap (λ (id : CallId). id.client.0) (kept.answers front a behind there).call ∙ kept.id in
+          omega (arith, own, slice_get_within earlier place client found)))
 
   pub told_of : Each IsToldOf c.told.answers
   told_of before told_line behind is =
@@ -89,7 +89,7 @@ module _ (b : Basis) (c : Chapter) (end : Scene (List PrefPair) (List EditStep))
         there = one.there;
         tells_it = line_tells told_line at.y at.reads;
         lines = at.earlier ∙ ap (λ l. map (λ x. Some x) l) one.before;
-        apart = apart_from one.earlier one.one one.later one.is;
+        before_it = up_to_from one.earlier one.one one.later one.is;
       }
 
   module _ (before : List AnswerLineSeen) (told_line : AnswerLineSeen) (it : IsToldOf before told_line) where
@@ -99,15 +99,20 @@ module _ (b : Basis) (c : Chapter) (end : Scene (List PrefPair) (List EditStep))
     pub true_answer : IsTrueAnswer b.rules c.store it.client end.world.history it.within it.a
     true_answer = kept.answers it.within it.a it.behind it.there
 
+    apart : All (λ (x : Answered). (length it.earlier == x.call.client.0) ≡ false) (flat_map (λ x. x.answered) it.earlier)
+    apart =
+        All-weaker (λ (x : Answered). x.call.client.0 < length it.earlier) (λ (x : Answered). (length it.earlier == x.call.client.0) ≡ false)
+        (λ x less. unequal (length it.earlier) x.call.client.0 (λ same. omega (arith, same, less))) (flat_map (λ x. x.answered) it.earlier) it.before_it
+
     -- its client stands at that place
-    client_is : told_line.call.client.0 ≡ length it.earlier
+    pub client_is : told_line.call.client.0 ≡ length it.earlier
     client_is = ap (λ (id : CallId). id.client.0) (it.tells_it.call ∙ true_answer.call) ∙ kept.id
 
     -- the lines before show its client no more than its own answers before
     pub shown_less : shown_to told_line.call.client c.told.entries before ≤ shown_of end.world.history it.within
     shown_less =
         let less : shown_to told_line.call.client end.world.history before ≤ shown_of end.world.history it.within =
-        shown_past end.world.history told_line.call.client before (flat_map (λ x. x.answered) it.earlier) it.within it.lines (rw client_is it.apart) in
+        shown_past end.world.history told_line.call.client before (flat_map (λ x. x.answered) it.earlier) it.within it.lines (rw client_is apart) in
         rw tells.entries less
 
     pub printed_late : IfSome (printed told_line.answer) (λ edition. shown_to told_line.call.client c.told.entries before ≤ edition)

@@ -3,6 +3,7 @@ pub mod AskedLemmas
 pub mod BeginKeeps
 pub mod GoodCalls
 pub mod GoodHistory
+pub mod GoodOrder
 pub mod GoodSession
 pub mod LineLemmas
 pub mod OwnTurns
