@@ -1,9 +1,8 @@
 -- The answers of a run stand in the order of their clients.
-use Rattle.std.proofs.Common.{◌≡◌, ◌∙◌, ◌≤◌, ◌<◌, ℕ, nat_lt, true, false, List, [], ◌∷◌, ◌++◌, map, flat_map, length, All, Some, append_assoc, slice_get, refl, sym, ap, subst, arith}
+use Rattle.std.proofs.Common.{◌≡◌, ◌∙◌, ◌≤◌, ◌<◌, ℕ, nat_lt, false, List, [], ◌∷◌, ◌++◌, map, flat_map, length, All, Some, refl, sym, ap, subst, arith}
 use Rattle.std.specs.List.{list_any}
 use Rattle.std.proofs.lemmas.Bool.Decides.{nat_tests}
 use Rattle.std.proofs.lemmas.List.Elements.{All-append, All-head, All-tail, All-weaker}
-use Rattle.std.proofs.lemmas.Option.{slice_get_within}
 use Rattle.store_traits.specs.declared.ids.CallId.{CallId}
 use Rattle.prefs_edit.specs.declared.edit_step.EditStep.{EditStep}
 use Rattle.prefs_model.specs.declared.pref_pair.PrefPair.{PrefPair}
@@ -12,7 +11,7 @@ use Rattle.hist_journal.proofs.ClearingLemmas.{longer}
 use Rattle.script_lang.specs.Chronicle.{Basis, Chapter}
 use Rattle.script_lang.specs.Each.{Each}
 use Rattle.replay_run.specs.ClientKeeps.{KeepsClient}
-use Rattle.replay_run.specs.Scene.{Answered, Client, Scene}
+use Rattle.replay_run.specs.Scene.{Answered, Scene}
 use Rattle.replay_run.specs.SceneKeeps.{SceneKeeps}
 use Rattle.replay_run.specs.ScriptRun.{Tells, answered_of}
 use Rattle.replay_run.proofs.GoodSession.{IsToldOf, all_each, client_is, told_of}
@@ -43,9 +42,9 @@ module _ (b : Basis) (c : Chapter) (end : Scene (List PrefPair) (List EditStep))
     own_within =
         all_each (λ (a : Answered). a.call.client.0 ≤ length it.earlier) [] it.within
         (λ front a rest is.
-          let stands : it.client.answered ≡ front ++ a ∷ (rest ++ it.a ∷ it.behind) = it.there ∙ longer it.within front rest (it.a ∷ it.behind) a is in
-          let own : a.call.client.0 ≡ length it.earlier = ap (λ (id : CallId). id.client.0) (kept.answers front a (rest ++ it.a ∷ it.behind) stands).call ∙ kept.id in
-          omega (arith, own))
+        let stands : it.client.answered ≡ front ++ a ∷ (rest ++ it.a ∷ it.behind) = it.there ∙ longer it.within front rest (it.a ∷ it.behind) a is in
+        let own : a.call.client.0 ≡ length it.earlier = ap (λ (id : CallId). id.client.0) (kept.answers front a (rest ++ it.a ∷ it.behind) stands).call ∙ kept.id in
+        omega (arith, own))
 
     line_in_order : list_any (λ (earlier : AnswerLineSeen). nat_lt line.call.client.0 earlier.call.client.0) before ≡ false
     line_in_order =

@@ -69,11 +69,11 @@ module _ (b : Basis) (c : Chapter) (end : Scene (List PrefPair) (List EditStep))
   up_to_from earlier one later is =
       all_flat (λ (x : Answered). x.call.client.0 < length earlier) (λ x. x.answered) earlier
       (λ place client found.
-        let kept : KeepsClient b.rules c.store place end.world client = keeps.clients place client (rw is (found_in_front earlier one later place client found)) in
-        all_each (λ (x : Answered). x.call.client.0 < length earlier) [] client.answered
-        (λ front a behind there.
-          let own : a.call.client.0 ≡ place = ap (λ (id : CallId). id.client.0) (kept.answers front a behind there).call ∙ kept.id in
-          omega (arith, own, slice_get_within earlier place client found)))
+      let kept : KeepsClient b.rules c.store place end.world client = keeps.clients place client (rw is (found_in_front earlier one later place client found)) in
+      all_each (λ (x : Answered). x.call.client.0 < length earlier) [] client.answered
+      (λ front a behind there.
+      let own : a.call.client.0 ≡ place = ap (λ (id : CallId). id.client.0) (kept.answers front a behind there).call ∙ kept.id in
+      omega (arith, own, slice_get_within earlier place client found)))
 
   pub told_of : Each IsToldOf c.told.answers
   told_of before told_line behind is =

@@ -6,6 +6,7 @@ pub mod GoodHistory
 pub mod GoodOrder
 pub mod GoodSession
 pub mod LineLemmas
+pub mod OverLemmas
 pub mod OwnTurns
 pub mod PlayedRuns
 pub mod ReplacedClient
