@@ -14,7 +14,8 @@ use Rattle.replay_run.specs.Order.{Go, Order, Task, Update, edits_for, task_edit
 use Rattle.replay_run.specs.ScriptRun.{order_of, task_of}
 use Rattle.shelf.proofs.Bools.{never}
 use Rattle.replay_run.proofs.LineLemmas.{nothing, one_of}
-use Rattle.replay_run.proofs.TurnKeeps.{second_none, unequal}
+use Rattle.replay_run.proofs.BeginKeeps.{second_none}
+use Rattle.replay_run.proofs.TurnKeeps.{unequal}
 
 contains_more : {X : Type 0} (xs : List X) (y x : X) → Contains xs x → Contains (y ∷ xs) x
 contains_more xs y x at = (suc at.0, (let within = at.1 in omega (arith, within)), at.2)

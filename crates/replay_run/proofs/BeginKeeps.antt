@@ -36,11 +36,11 @@ number_apart begun number others within = grind (arith, nat_tests, within)
 not_later : (begun number : ℕ) → number ≤ begun → nat_lt (begun + 1) number ≡ false
 not_later begun number within = grind (arith, nat_tests, within)
 
-second_none : (x y : Bool) → y ≡ false → (x && y) ≡ false
+pub second_none : (x y : Bool) → y ≡ false → (x && y) ≡ false
 second_none true y none = none
 second_none false y none = refl
 
-middle_none : (x y z : Bool) → y ≡ false → ((x && y) && z) ≡ false
+pub middle_none : (x y z : Bool) → y ≡ false → ((x && y) && z) ≡ false
 middle_none x y z none = rw (second_none x y none) refl
 
 module _ {V T : Type 0} (clients : List (Client V T)) (place : ℕ) (client : Client V T) (found : slice_get clients place ≡ Some client) (stands : client.id.0 ≡ place) where

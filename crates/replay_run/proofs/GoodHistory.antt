@@ -1,5 +1,5 @@
 -- The rules on the history, the file and the failures of a transcript, which its run keeps in a session.
-use Rattle.std.proofs.Common.{◌≡◌, ◌∙◌, ◌||◌, Bool, true, false, List, [], ◌∷◌, ◌++◌, cond, count_by, refl, sym, ap, arith}
+use Rattle.std.proofs.Common.{◌≡◌, ◌∙◌, Bool, false, List, [], ◌∷◌, ◌++◌, cond, count_by, refl, sym, ap, arith}
 use Rattle.std.specs.List.{list_any}
 use Rattle.std.proofs.lemmas.List.Folds.{list_any-append}
 use Rattle.std.proofs.lemmas.List.Sums.{sum_by-cons}
@@ -29,12 +29,9 @@ use Rattle.replay_run.specs.Scene.{Scene}
 use Rattle.replay_run.specs.SceneKeeps.{SceneKeeps, is_rough}
 use Rattle.replay_run.specs.ScriptRun.{Tells, result_of}
 use Rattle.replay_run.proofs.GoodSession.{told_of}
+use Rattle.replay_run.proofs.OwnTurns.{no_part}
 use Rattle.replay_run.proofs.LineLemmas.{nothing}
-use Rattle.replay_run.proofs.TurnKeeps.{second_none}
-
-no_part : (x y : Bool) → (x || y) ≡ false → (x ≡ false) × (y ≡ false)
-no_part true y none = never (sym none)
-no_part false y none = (refl, none)
+use Rattle.replay_run.proofs.BeginKeeps.{second_none}
 
 none_stands : {X : Type 0} (p : X → Bool) (list before behind : List X) (x : X) → list_any p list ≡ false → list ≡ before ++ x ∷ behind → p x ≡ false
 none_stands p list before behind x none is =

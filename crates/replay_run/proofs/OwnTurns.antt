@@ -45,7 +45,7 @@ either_mark : (later first : Option Bool) → unwrap_or later true ≡ true → 
 either_mark None first is was = was
 either_mark (Some b) first is was = is
 
-no_part : (x y : Bool) → (x || y) ≡ false → (x ≡ false) × (y ≡ false)
+pub no_part : (x y : Bool) → (x || y) ≡ false → (x ≡ false) × (y ≡ false)
 no_part true y none = never (sym none)
 no_part false y none = (refl, none)
 

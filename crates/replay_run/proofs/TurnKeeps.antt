@@ -42,19 +42,13 @@ use Rattle.replay_run.specs.SceneKeeps.{HasOwner, IsOfCall, SceneKeeps, ShelfKee
 use Rattle.replay_run.specs.ShownByAnswers.{printed_by, shown_of}
 use Rattle.replay_run.specs.Step.{behind_turn}
 use Rattle.replay_run.proofs.AnswerLemmas.{answers_more, answers_same, cause_of_less, each-push, shown_stays, shown_within}
+use Rattle.replay_run.proofs.BeginKeeps.{middle_none}
 use Rattle.replay_run.proofs.OwnTurns.{AddsOwn, dies, ended_owns_nothing, entries_of, finishing_readies, living, moved_holds, moved_is_same, moves_on, none_passes, prints_now, ready_stays, stumbles, turn_adds_own, waits_same}
 use Rattle.replay_run.proofs.ReplacedClient.{entries_on, one_of_it, owner_apart, same_call}
 use Rattle.replay_run.proofs.SetLemmas.{found_then, set_found}
 
 up_to_none : (same : Bool) (number begun : ℕ) → number < begun → (same && nat_le begun number) ≡ false
 up_to_none same number begun less = grind (arith, nat_tests, less)
-
-pub second_none : (x y : Bool) → y ≡ false → (x && y) ≡ false
-second_none true y none = none
-second_none false y none = refl
-
-middle_none : (x y z : Bool) → y ≡ false → ((x && y) && z) ≡ false
-middle_none x y z none = rw (second_none x y none) refl
 
 pub unequal : (a b : ℕ) → (a ≡ b → ⊥) → (a == b) ≡ false
 unequal a b apart = by_test (a == b) refl
@@ -64,7 +58,7 @@ unequal a b apart = by_test (a == b) refl
     by_test false is = refl
 
 module _ {V T : Type 0} where
-  first_not_finishing : (at : At V T) → is_first at ≡ true → is_finishing at ≡ false
+  pub first_not_finishing : (at : At V T) → is_first at ≡ true → is_finishing at ≡ false
   first_not_finishing (First edit) is = refl
   first_not_finishing other is = never is
 

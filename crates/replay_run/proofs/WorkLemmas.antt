@@ -26,6 +26,7 @@ use Rattle.replay_run.specs.WorkLeft.{IsStill, RoundSoFar, Waits, client_left, w
 use Rattle.replay_run.proofs.BeginKeeps.{begins_keeps}
 use Rattle.replay_run.proofs.OwnTurns.{waits_same}
 use Rattle.replay_run.proofs.ReplacedClient.{one_of_it}
+use Rattle.replay_run.proofs.TurnKeeps.{first_not_finishing}
 use Rattle.replay_run.proofs.SetLemmas.{others_found, set_found, sum_then}
 
 one_fewer : (limit edits begun : ℕ) → begun < edits → limit + 11 + (edits - (begun + 1)) * (limit + 11) ≡ 0 + (edits - begun) * (limit + 11)
@@ -56,10 +57,6 @@ module _ {V T : Type 0} where
 
   work_runs : (client : Client V T) (call : Call V T) → client.running ≡ Some call → (at_work client).running ≡ Some call
   work_runs client call runs = works_by client call client.running (slice_get client.edits client.begun) refl runs
-
-  first_not_finishing : (at : At V T) → is_first at ≡ true → is_finishing at ≡ false
-  first_not_finishing (First edit) first = refl
-  first_not_finishing other first = never first
 
 module _ {V T : Type 0} (limit : ℕ) where
   -- a call that begins was counted before
