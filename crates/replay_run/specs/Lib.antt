@@ -1,0 +1,10 @@
+pub mod ClientKeeps
+pub mod Order
+pub mod Run
+pub mod RunExamples
+pub mod Scene
+pub mod SceneKeeps
+pub mod ScriptRun
+pub mod ShownByAnswers
+pub mod Step
+pub mod WorkLeft
