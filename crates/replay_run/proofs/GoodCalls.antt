@@ -1,5 +1,5 @@
 -- The rules on acknowledgements and causes of a transcript, which its run keeps in a session.
-use Rattle.std.proofs.Common.{◌≡◌, ◌∙◌, ◌⊎◌, inl, inr, ◌≤◌, ◌<◌, ◌+◌, ◌-◌, ◌||◌, ℕ, nat_le, Bool, true, false, List, [], ◌∷◌, ◌++◌, map, length, All, Contains, Option, Some, None, IfSome, MatchOption, count_by, is_some, slice_get, slice_index_or, refl, sym, ap, subst, arith, if◌then◌else◌, Result, Ok, Err}
+use Rattle.std.proofs.Common.{◌≡◌, ◌∙◌, ◌⊎◌, inl, inr, ◌≤◌, ◌<◌, ◌+◌, ◌-◌, ◌||◌, ℕ, nat_le, Bool, true, false, List, [], ◌∷◌, ◌++◌, map, length, length-append, All, Contains, Option, Some, None, IfSome, MatchOption, count_by, is_some, slice_get, slice_index_or, refl, sym, ap, subst, arith, if◌then◌else◌, Result, Ok, Err}
 use Rattle.std.proofs.lemmas.Bool.Decides.{nat_tests}
 use Rattle.std.proofs.lemmas.List.Elements.{All-head, All-tail}
 use Rattle.std.proofs.lemmas.Option.{get_or_from_slice_get, slice_get_cases, slice_get_within}
@@ -9,7 +9,9 @@ use Rattle.store_traits.specs.declared.ids.NodeId.{NodeId}
 use Rattle.store_traits.specs.declared.update_error.UpdateError.{UpdateError}
 use Rattle.prefs_edit.specs.declared.edit_step.EditStep.{EditStep}
 use Rattle.prefs_model.specs.declared.pref_pair.PrefPair.{PrefPair}
+use Rattle.prefs_text.specs.Callers.{HasCaller, actor_name}
 use Rattle.prefs_text.specs.EntryText.{PrefEntry}
+use Rattle.prefs_text.specs.declared.names.Names.{Names}
 use Rattle.prefs_text.specs.declared.seen.AnswerLineSeen.{AnswerLineSeen}
 use Rattle.prefs_text.specs.declared.seen.AnswerSeen.{AnswerSeen}
 use Rattle.prefs_text.specs.declared.seen.AnswerSeen.TheVariants as seen
@@ -23,7 +25,7 @@ use Rattle.script_lang.specs.Asked.{asked_by, home_of, is_actor, is_call_line_of
 use Rattle.script_lang.specs.Chronicle.{Basis, Chapter}
 use Rattle.script_lang.specs.Each.{Each}
 use Rattle.script_lang.specs.GoodAnswers.{HasForm, IsAsked, IsHome, IsTold}
-use Rattle.script_lang.specs.GoodCauses.{HasCauseBy, HasPostedCause, HasUpdateCause, IsCaused}
+use Rattle.script_lang.specs.GoodCauses.{HasActorCause, HasCauseBy, HasUpdateCause, IsCaused}
 use Rattle.script_lang.specs.GoodUpdates.{Acknowledges, IsAcknowledged, IsDone, has_restart}
 use Rattle.script_lang.specs.Shown.{shown_to}
 use Rattle.replay_run.specs.ClientKeeps.{IsExplained, IsTrueAnswer, KeepsClient}
@@ -44,6 +46,10 @@ at_home false elsewhere homes place node is found = sym (get_or_from_slice_get h
 
 not_past : (clients place : ℕ) → place < clients → nat_le clients place ≡ false
 not_past clients place within = grind (arith, nat_tests, within)
+
+-- a client is one of the callers
+known_place : (names : Names) (client : ClientId) → client.0 < length names.clients → HasCaller names client
+known_place names client within = omega (arith, within, length-append names.clients (map actor_name names.nodes))
 
 -- an error is no restart that was done
 done_otherwise : (c : Chapter) (line : AnswerLineSeen) (answer : AnswerSeen) (err : UpdateError) → update_error answer ≡ Some err → has_restart line.call c.told.entries ≡ false → IsDone c line answer
@@ -110,7 +116,11 @@ module _ (b : Basis) (script : Script) (c : Chapter) (end : Scene (List PrefPair
     line_home =
         let client : line.call.client ≡ client_id = ap (λ (call : CallId). call.client) call_is in
         record {
-          home = ap (λ (call : CallId). call.node) call_is ∙ ap (λ id. home_of script id) (sym client);
+          home =
+              record {
+                known = known_place script.names line.call.client (let within = slice_get_within script.homes place it.client.node mine.home in let same : line.call.client.0 ≡ place = ap (λ (id : ClientId). id.0) client in omega (arith, within, one_each, same));
+                home = ap (λ (call : CallId). call.node) call_is ∙ ap (λ id. home_of script id) (sym client);
+              };
           poster = ap (λ o. is_some o) it.tells_it.poster ∙ (sym no_actor ∙ ap (λ id. is_actor script id) (sym client));
           poster_home = subst (λ o. IfSome o (λ call. IsHome script call)) (sym it.tells_it.poster) tt;
         }
@@ -135,7 +145,7 @@ module _ (b : Basis) (script : Script) (c : Chapter) (end : Scene (List PrefPair
           | inr failed ↦ done_otherwise c line line.answer failed.0 failed.1 (restarts_none b c end tells keeps line.call)
         ]
 
-    cause_now : (err : UpdateError) → it.a.answer ≡ Err err → HasCause b.rules c.store (shown_to line.call.client c.told.entries before) line.call truth.edit err c.told.entries
+    cause_now : (err : UpdateError) → it.a.answer ≡ Err err → HasUpdateCause b c before line err truth.edit
     cause_now err is =
         let explained : HasCause b.rules c.store (shown_of end.world.history it.within) it.a.call truth.edit err end.world.history =
         subst (λ answer. IsExplained b.rules c.store (shown_of end.world.history it.within) it.a.call truth.edit answer end.world.history) is truth.explained in
@@ -143,16 +153,16 @@ module _ (b : Basis) (script : Script) (c : Chapter) (end : Scene (List PrefPair
         subst (λ list. HasCause b.rules c.store (shown_to line.call.client c.told.entries before) line.call truth.edit err list) (sym tells.entries)
         (subst (λ call. HasCause b.rules c.store (shown_to line.call.client c.told.entries before) call truth.edit err end.world.history) (sym it.tells_it.call) less)
 
-    caused : HasUpdateCause b c before line truth.edit
+    caused : HasCauseBy b c before line (act.Update truth.edit)
     caused =
         elim (result_parts line.answer it.a.answer it.tells_it.result) [
-          | inl updated ↦ subst (λ answer. IfSome (update_error answer) (λ err. HasCause b.rules c.store (shown_to line.call.client c.told.entries before) line.call truth.edit err c.told.entries)) (sym updated.1) tt
-          | inr failed ↦ subst (λ o. IfSome o (λ err. HasCause b.rules c.store (shown_to line.call.client c.told.entries before) line.call truth.edit err c.told.entries)) (sym failed.1) (cause_now failed.0 failed.2)
+          | inl updated ↦ subst (λ answer. IfSome (update_error answer) (λ err. HasUpdateCause b c before line err truth.edit)) (sym updated.1) tt
+          | inr failed ↦ subst (λ o. IfSome o (λ err. HasUpdateCause b c before line err truth.edit)) (sym failed.1) (cause_now failed.0 failed.2)
         ]
 
     line_caused : IsCaused b c before line
     line_caused =
-        subst (λ o. MatchOption o (IsAsked c line.call (HasCauseBy b c before line)) (HasPostedCause b c before line)) (sym it.tells_it.poster)
+        subst (λ o. MatchOption o (IsAsked c line.call (HasCauseBy b c before line)) (HasActorCause b c before line)) (sym it.tells_it.poster)
         (record { act = act.Update truth.edit; asked = line_asked; fits = caused })
 
     line_formed : HasForm c line
@@ -198,8 +208,15 @@ module _ (b : Basis) (script : Script) (c : Chapter) (end : Scene (List PrefPair
     entry_actor : is_actor script e.who.client ≡ false
     entry_actor = not_past (length script.names.clients) entry_place (let within = slice_get_within script.homes entry_place of.client.node entry_served.home in omega (arith, within, one_each))
 
+    entry_node : e.who.node ≡ home_of script e.who.client
+    entry_node = of.node ∙ at_home (is_actor script e.who.client) (record { 0 = e.who.client.0 - length script.names.clients }) script.homes entry_place of.client.node entry_actor entry_served.home
+
     entry_home : IsHome script e.who
-    entry_home = of.node ∙ at_home (is_actor script e.who.client) _ script.homes entry_place of.client.node entry_actor entry_served.home
+    entry_home =
+        record {
+          known = known_place script.names e.who.client (let within = slice_get_within script.homes entry_place of.client.node entry_served.home in omega (arith, within, one_each));
+          home = entry_node;
+        }
 
     entry_asked : IsAsked c e.who (λ act. Unit {0})
     entry_asked = by_edit (slice_get_cases of.client.edits (e.who.number - 1)).1
@@ -217,7 +234,7 @@ module _ (b : Basis) (script : Script) (c : Chapter) (end : Scene (List PrefPair
             let first = of.first in
             let number : count_by (is_call_line_of e.who.client) [] + (e.who.number - 1) + 1 ≡ e.who.number = omega (arith, first) in
             let same : record { node = home_of script e.who.client; client = e.who.client; number = count_by (is_call_line_of e.who.client) [] + (e.who.number - 1) + 1 } ≡ e.who =
-            ap (λ k. record { node = home_of script e.who.client; client = e.who.client; number = k }) number ∙ ap (λ n. record { node = n; client = e.who.client; number = e.who.number }) (sym entry_home) in
+            ap (λ k. record { node = home_of script e.who.client; client = e.who.client; number = k }) number ∙ ap (λ n. record { node = n; client = e.who.client; number = e.who.number }) (sym entry_node) in
             record {
               act = act.Update found.0;
               asked =
