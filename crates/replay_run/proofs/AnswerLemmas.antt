@@ -15,8 +15,10 @@ use Rattle.shelf.specs.declared.store.Store.{Store}
 use Rattle.shelf.specs.Causes.{HasCause}
 use Rattle.shelf.specs.Places.{is_up_to}
 use Rattle.shelf.specs.Calls.{Call}
+use Rattle.shelf.specs.Entries.{is_update}
 use Rattle.shelf.specs.World.{Rules, World}
 use Rattle.shelf.proofs.CauseLemmas.{HasCause-more, IsUpdated-more, none_up_to}
+use Rattle.shelf.proofs.MeanwhileLemmas as meanwhile
 use Rattle.script_lang.specs.Each.{Each}
 use Rattle.replay_run.specs.ClientKeeps.{IsExplained, IsTrueAnswer, KeepsClient, KeepsRunning}
 use Rattle.replay_run.specs.Scene.{Answered, Client, call_of}
@@ -119,6 +121,7 @@ module _ {V T M : Type 0} (r : Rules V T) (s : Store V M) where
           explained = rw same (explained_more (shown_of list before) a.call it.edit list more a.answer over it.explained);
           late = rw same it.late;
           memory = it.memory;
+          none = λ out. meanwhile.own is_update a.call list more (none_up_to a.call more over) ∙ it.none out;
         }
 
     -- the answers stay true where no entry more is of a call up to them
@@ -142,6 +145,7 @@ module _ {V T M : Type 0} (r : Rules V T) (s : Store V M) where
         explained = here.explained;
         late = here.late;
         memory = here.memory;
+        none = here.none;
       }
 
   -- no call has begun for which there is no edit

@@ -1,6 +1,7 @@
 pub mod AnswerLemmas
 pub mod AskedLemmas
 pub mod BeginKeeps
+pub mod ErrorLeaves
 pub mod GoodCalls
 pub mod GoodHistory
 pub mod GoodOrder

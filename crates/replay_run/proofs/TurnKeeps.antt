@@ -19,7 +19,7 @@ use Rattle.shelf.specs.declared.progress.Progress.{Progress}
 use Rattle.shelf.specs.declared.progress.Progress.TheVariants.{Moved, Blocked, Ended}
 use Rattle.shelf.specs.declared.store.Store.{Store}
 use Rattle.shelf.specs.Calls.{At, Call, First, SyncingFolder, Changed, Kept, is_first, is_gone}
-use Rattle.shelf.specs.Entries.{is_any, is_own}
+use Rattle.shelf.specs.Entries.{is_any, is_own, is_update}
 use Rattle.shelf.specs.Meanwhile.{NoneOf}
 use Rattle.shelf.specs.Places.{is_up_to}
 use Rattle.shelf.specs.Turn.{Turn}
@@ -36,13 +36,14 @@ use Rattle.node_core.proofs.ForLemmas.{turn_is_for}
 use Rattle.node_core.proofs.KeepingLemmas.{turn_keeps_knowledge}
 use Rattle.node_core.proofs.SparingLemmas.{turn_owner, turn_spares}
 use Rattle.script_lang.specs.Each.{Each}
-use Rattle.replay_run.specs.ClientKeeps.{IsExplained, IsTrueAnswer, KeepsCall, KeepsClient, KeepsRunning}
+use Rattle.replay_run.specs.ClientKeeps.{IsExplained, IsTrueAnswer, KeepsCall, KeepsClient, KeepsRunning, may_stand}
 use Rattle.replay_run.specs.Scene.{Answered, Client, Scene, call_of}
 use Rattle.replay_run.specs.SceneKeeps.{HasOwner, IsOfCall, SceneKeeps, ShelfKeeps}
 use Rattle.replay_run.specs.ShownByAnswers.{printed_by, shown_of}
 use Rattle.replay_run.specs.Step.{behind_turn}
 use Rattle.replay_run.proofs.AnswerLemmas.{answers_more, answers_same, cause_of_less, each-push, shown_stays, shown_within}
 use Rattle.replay_run.proofs.BeginKeeps.{middle_none}
+use Rattle.replay_run.proofs.ErrorLeaves.{error_leaves_none}
 use Rattle.replay_run.proofs.OwnTurns.{AddsOwn, dies, ended_owns_nothing, entries_of, finishing_readies, living, moved_holds, moved_is_same, moves_on, none_passes, prints_now, ready_stays, stumbles, turn_adds_own, waits_same}
 use Rattle.replay_run.proofs.ReplacedClient.{entries_on, one_of_it, owner_apart, same_call}
 use Rattle.replay_run.proofs.SetLemmas.{found_then, set_found}
@@ -175,6 +176,10 @@ module _ {V T M : Type 0} (r : Rules V T) (s : Store V M) where
           cause_of_less r s (shown_of world_after.history client.answered) (edition_of scene.world.history) call.id kept.edit err world_after.history within_now
           (error_has_cause r s kept.edit turned err it shelf.told kept.knows shelf.reads kept.is_for (λ died. never (sym (living r s turned keeps.alive) ∙ died)))
 
+      leaves_none : (answer : Result ℕ UpdateError) → Turn r s turned (Ended answer) → may_stand answer ≡ false → list_any (is_own is_update call.id) world_after.history ≡ false
+      leaves_none (Ok edition) it out = never (sym out)
+      leaves_none (Err err) it out = error_leaves_none r s turned keeps.alive keeps.unplanned err it kept.knows.entries out
+
       new_answer : (answer : Result ℕ UpdateError) → gave ≡ Ended answer → IsTrueAnswer r s client world_after.history client.answered (record { call = call.id; answer = answer })
       new_answer answer is =
           let ended : Turn r s turned (Ended answer) = subst (λ g. Turn r s turned g) is turn in
@@ -185,6 +190,7 @@ module _ {V T M : Type 0} (r : Rules V T) (s : Store V M) where
             explained = explains answer ended;
             late = IfSome_then (printed_by answer) (prints_now r s turned keeps.alive keeps.unplanned answer ended) (λ edition now. rw now within_now);
             memory = λ wants. memory (is ∙ ap (λ a. Ended a) wants);
+            none = leaves_none answer ended;
           }
 
       ready_after : client.initialised ≡ true → is_ready client.node world_after.history ≡ true
