@@ -24,7 +24,7 @@ contains_first : {X : Type 0} (xs : List X) (x : X) → Contains (x ∷ xs) x
 contains_first xs x = (0, omega arith, refl)
 
 -- what an order is of
-record IsOrder (line : RunLine) (order : Order (List EditStep)) : Type 0 where
+pub record IsOrder (line : RunLine) (order : Order (List EditStep)) : Type 0 where
   pub place : order.place ≡ line.client.0
   pub task : task_of line.act ≡ Some order.task
 
@@ -34,17 +34,17 @@ order_by client (Some task) order is =
     let same = one_of (record { place = client.0; task = task }) order is in
     (ap (λ (o : Order (List EditStep)). o.place) (sym same), ap (λ (o : Order (List EditStep)). Some o.task) same)
 
-order_is : (line : RunLine) (order : Order (List EditStep)) → order_of line ≡ Some order → IsOrder line order
+pub order_is : (line : RunLine) (order : Order (List EditStep)) → order_of line ≡ Some order → IsOrder line order
 order_is line order is = let parts = order_by line.client (task_of line.act) order is in record { place = parts.0; task = parts.1 }
 
 -- an update is asked for, or steps are
-act_is : (a : Act) (task : Task (List EditStep)) → task_of a ≡ Some task
+pub act_is : (a : Act) (task : Task (List EditStep)) → task_of a ≡ Some task
     → ((edit : List EditStep) × (a ≡ act.Update edit) × (task ≡ Update edit)) ⊎ ((steps : ℕ) × (a ≡ act.Go steps) × (task ≡ Go steps))
 act_is (act.Update edit) task is = inl (edit, refl, sym (one_of (Update edit) task is))
 act_is (act.Go steps) task is = inr (steps, refl, sym (one_of (Go steps) task is))
 act_is other task is = nothing task is
 
-count_push : {X : Type 0} (p : X → Bool) (xs : List X) (x : X) → count_by p (xs ++ x ∷ []) ≡ count_by p xs + cond (p x) 1 0
+pub count_push : {X : Type 0} (p : X → Bool) (xs : List X) (x : X) → count_by p (xs ++ x ∷ []) ≡ count_by p xs + cond (p x) 1 0
 count_push p xs x = sum_by_push (λ x. cond (p x) 1 0) xs x
 
 module _ (script : Script) (client : ℕ) where

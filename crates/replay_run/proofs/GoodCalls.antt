@@ -47,6 +47,11 @@ at_home false elsewhere homes place node is found = sym (get_or_from_slice_get h
 not_past : (clients place : ℕ) → place < clients → nat_le clients place ≡ false
 not_past clients place within = grind (arith, nat_tests, within)
 
+-- a client has the node that the script gives it
+pub client_home : (script : Script) (client : ClientId) (node : NodeId) → client.0 < length script.names.clients → slice_get script.homes client.0 ≡ Some node → node ≡ home_of script client
+client_home script client node within found =
+    at_home (is_actor script client) (record { 0 = client.0 - length script.names.clients }) script.homes client.0 node (not_past (length script.names.clients) client.0 within) found
+
 -- a client is one of the callers
 known_place : (names : Names) (client : ClientId) → client.0 < length names.clients → HasCaller names client
 known_place names client within = omega (arith, within, length-append names.clients (map actor_name names.nodes))
@@ -86,11 +91,14 @@ module _ (b : Basis) (script : Script) (c : Chapter) (end : Scene (List PrefPair
     mine : IsServed script.homes orders place it.client
     mine = served place it.client it.found
 
+    named : place < length script.names.clients
+    named = let within = slice_get_within script.homes place it.client.node mine.home in omega (arith, within, one_each)
+
     no_actor : is_actor script client_id ≡ false
-    no_actor = not_past (length script.names.clients) place (let within = slice_get_within script.homes place it.client.node mine.home in omega (arith, within, one_each))
+    no_actor = not_past (length script.names.clients) place named
 
     node_is : it.client.node ≡ home_of script client_id
-    node_is = at_home (is_actor script client_id) _ script.homes place it.client.node no_actor mine.home
+    node_is = client_home script client_id it.client.node named mine.home
 
     abbrev the_call : NodeId → ClientId → ℕ → CallId
     the_call node client number = record { node = node; client = client; number = number }
@@ -118,7 +126,7 @@ module _ (b : Basis) (script : Script) (c : Chapter) (end : Scene (List PrefPair
         record {
           home =
               record {
-                known = known_place script.names line.call.client (let within = slice_get_within script.homes place it.client.node mine.home in let same : line.call.client.0 ≡ place = ap (λ (id : ClientId). id.0) client in omega (arith, within, one_each, same));
+                known = known_place script.names line.call.client (let same : line.call.client.0 ≡ place = ap (λ (id : ClientId). id.0) client in omega (arith, named, same));
                 home = ap (λ (call : CallId). call.node) call_is ∙ ap (λ id. home_of script id) (sym client);
               };
           poster = ap (λ o. is_some o) it.tells_it.poster ∙ (sym no_actor ∙ ap (λ id. is_actor script id) (sym client));
@@ -205,18 +213,14 @@ module _ (b : Basis) (script : Script) (c : Chapter) (end : Scene (List PrefPair
     entry_served : IsServed script.homes orders entry_place of.client
     entry_served = served entry_place of.client of.found
 
-    entry_actor : is_actor script e.who.client ≡ false
-    entry_actor = not_past (length script.names.clients) entry_place (let within = slice_get_within script.homes entry_place of.client.node entry_served.home in omega (arith, within, one_each))
+    entry_named : entry_place < length script.names.clients
+    entry_named = let within = slice_get_within script.homes entry_place of.client.node entry_served.home in omega (arith, within, one_each)
 
     entry_node : e.who.node ≡ home_of script e.who.client
-    entry_node = of.node ∙ at_home (is_actor script e.who.client) (record { 0 = e.who.client.0 - length script.names.clients }) script.homes entry_place of.client.node entry_actor entry_served.home
+    entry_node = of.node ∙ client_home script e.who.client of.client.node entry_named entry_served.home
 
     entry_home : IsHome script e.who
-    entry_home =
-        record {
-          known = known_place script.names e.who.client (let within = slice_get_within script.homes entry_place of.client.node entry_served.home in omega (arith, within, one_each));
-          home = entry_node;
-        }
+    entry_home = record { known = known_place script.names e.who.client entry_named; home = entry_node }
 
     entry_asked : IsAsked c e.who (λ act. Unit {0})
     entry_asked = by_edit (slice_get_cases of.client.edits (e.who.number - 1)).1

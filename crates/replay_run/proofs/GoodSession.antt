@@ -22,7 +22,7 @@ use Rattle.replay_run.proofs.LineLemmas.{Reads, line_tells, nothing, same_print,
 use Rattle.replay_run.proofs.TurnKeeps.{unequal}
 use Rattle.replay_run.proofs.ToldAnswers.{reads_at, split_all}
 
-all_flat : {X Y : Type 0} (P : Y → Type 0) (f : X → List Y) (xs : List X) → ((place : ℕ) (x : X) → slice_get xs place ≡ Some x → All P (f x)) → All P (flat_map f xs)
+pub all_flat : {X Y : Type 0} (P : Y → Type 0) (f : X → List Y) (xs : List X) → ((place : ℕ) (x : X) → slice_get xs place ≡ Some x → All P (f x)) → All P (flat_map f xs)
 all_flat P f [] all = All-nil P
 all_flat P f (x ∷ xs) all = All-append P (f x) (flat_map f xs) (all 0 x refl) (all_flat P f xs (λ place y found. all (suc place) y found))
 

@@ -4,6 +4,7 @@ pub mod BeginKeeps
 pub mod ErrorLeaves
 pub mod GoodCalls
 pub mod GoodHistory
+pub mod GoodOnce
 pub mod GoodOrder
 pub mod GoodSession
 pub mod LineLemmas
@@ -11,6 +12,7 @@ pub mod OverLemmas
 pub mod OwnTurns
 pub mod PlayedRuns
 pub mod ReplacedClient
+pub mod RunClients
 pub mod ServedOrders
 pub mod SetLemmas
 pub mod StepKeeps
