@@ -1,7 +1,6 @@
 -- The rules on acknowledgements and causes of a transcript, which its run keeps in a session.
 use Rattle.std.proofs.Common.{◌≡◌, ◌∙◌, ◌⊎◌, inl, inr, ◌≤◌, ◌<◌, ◌+◌, ◌-◌, ◌||◌, ℕ, nat_le, Bool, true, false, List, [], ◌∷◌, ◌++◌, map, length, length-append, All, Contains, Option, Some, None, IfSome, MatchOption, count_by, is_some, slice_get, slice_index_or, refl, sym, ap, subst, arith, if◌then◌else◌, Result, Ok, Err}
 use Rattle.std.proofs.lemmas.Bool.Decides.{nat_tests}
-use Rattle.std.proofs.lemmas.List.Elements.{All-head, All-tail}
 use Rattle.std.proofs.lemmas.Option.{get_or_from_slice_get, slice_get_cases, slice_get_within}
 use Rattle.store_traits.specs.declared.ids.CallId.{CallId}
 use Rattle.store_traits.specs.declared.ids.ClientId.{ClientId}
@@ -39,6 +38,7 @@ use Rattle.replay_run.proofs.AskedLemmas.{asked_for}
 use Rattle.replay_run.proofs.GoodHistory.{restarts_none}
 use Rattle.replay_run.proofs.GoodSession.{IsToldOf, shown_less, told_of, true_answer}
 use Rattle.replay_run.proofs.LineLemmas.{nothing, result_parts}
+use Rattle.replay_run.proofs.StandLemmas.{all_at}
 
 at_home : (actors : Bool) (elsewhere : NodeId) (homes : List NodeId) (place : ℕ) (node : NodeId) → actors ≡ false → slice_get homes place ≡ Some node → node ≡ (if actors then elsewhere else slice_index_or homes place (record { 0 = 0 }))
 at_home true elsewhere homes place node is found = absurd (let no : true ≡ false = is in cc)
@@ -133,7 +133,8 @@ module _ (b : Basis) (script : Script) (c : Chapter) (end : Scene (List PrefPair
           poster_home = subst (λ o. IfSome o (λ call. IsHome script call)) (sym it.tells_it.poster) tt;
         }
 
-    acknowledged : (edition : ℕ) → it.a.answer ≡ Ok edition → IsAcknowledged c line edition
+    -- what is answered by an edition is acknowledged
+    pub acknowledged : (edition : ℕ) → it.a.answer ≡ Ok edition → IsAcknowledged c line edition
     acknowledged edition is =
         let updated : IsUpdated it.a.call truth.edit edition end.world.history = subst (λ answer. IsExplained b.rules c.store (shown_of end.world.history it.within) it.a.call truth.edit answer end.world.history) is truth.explained in
         record {
@@ -247,14 +248,8 @@ module _ (b : Basis) (script : Script) (c : Chapter) (end : Scene (List PrefPair
               fits = tt;
             }
 
-  entry_of : (before : List PrefEntry) (e : PrefEntry) (behind : List PrefEntry) → c.told.entries ≡ before ++ e ∷ behind → IsOfCall end.clients e
-  entry_of before e behind is =
-      let all : All (IsOfCall end.clients) (before ++ e ∷ behind) = subst (λ list. All (IsOfCall end.clients) list) (sym tells.entries ∙ is) keeps.entries in
-      All-head (IsOfCall end.clients) e behind (rest_of before (e ∷ behind) all)
-    where
-      rest_of : (front list : List PrefEntry) → All (IsOfCall end.clients) (front ++ list) → All (IsOfCall end.clients) list
-      rest_of [] list all = all
-      rest_of (x ∷ front) list all = rest_of front list (All-tail (IsOfCall end.clients) x (front ++ list) all)
+  pub entry_of : (before : List PrefEntry) (e : PrefEntry) (behind : List PrefEntry) → c.told.entries ≡ before ++ e ∷ behind → IsOfCall end.clients e
+  entry_of before e behind is = all_at (IsOfCall end.clients) before e behind (subst (λ list. All (IsOfCall end.clients) list) (sym tells.entries ∙ is) keeps.entries)
 
   -- each entry is of a call that a line asks for, and has its node
   pub entries_home : Each (λ before e. IsHome script e.who) c.told.entries

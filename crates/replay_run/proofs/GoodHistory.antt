@@ -33,7 +33,7 @@ use Rattle.replay_run.proofs.OwnTurns.{no_part}
 use Rattle.replay_run.proofs.LineLemmas.{nothing}
 use Rattle.replay_run.proofs.BeginKeeps.{second_none}
 
-none_stands : {X : Type 0} (p : X → Bool) (list before behind : List X) (x : X) → list_any p list ≡ false → list ≡ before ++ x ∷ behind → p x ≡ false
+pub none_stands : {X : Type 0} (p : X → Bool) (list before behind : List X) (x : X) → list_any p list ≡ false → list ≡ before ++ x ∷ behind → p x ≡ false
 none_stands p list before behind x none is =
     let all : list_any p (before ++ x ∷ behind) ≡ false = rw is at none in
     let parts = no_part (list_any p before) (list_any p (x ∷ behind)) (sym (list_any-append p before (x ∷ behind)) ∙ all) in
@@ -54,7 +54,7 @@ smooth_restarts_none Synced smooth = refl
 smooth_restarts_none (Inited node) smooth = refl
 smooth_restarts_none other smooth = never (sym smooth)
 
-smooth_fails_none : (device : Device) (kind : PrefKind) → is_rough kind ≡ false → is_fault_of device kind ≡ false
+pub smooth_fails_none : (device : Device) (kind : PrefKind) → is_rough kind ≡ false → is_fault_of device kind ≡ false
 smooth_fails_none device Raise smooth = refl
 smooth_fails_none device (Edit edit) smooth = refl
 smooth_fails_none device (Same edit) smooth = refl

@@ -3,6 +3,7 @@ pub mod AskedLemmas
 pub mod BeginKeeps
 pub mod ErrorLeaves
 pub mod GoodCalls
+pub mod GoodEdits
 pub mod GoodHistory
 pub mod GoodOnce
 pub mod GoodOrder
@@ -15,6 +16,7 @@ pub mod ReplacedClient
 pub mod RunClients
 pub mod ServedOrders
 pub mod SetLemmas
+pub mod StandLemmas
 pub mod StepKeeps
 pub mod ToldAnswers
 pub mod TurnKeeps
