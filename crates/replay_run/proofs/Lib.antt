@@ -7,6 +7,7 @@ pub mod GoodEdits
 pub mod GoodHistory
 pub mod GoodOnce
 pub mod GoodOrder
+pub mod GoodRun
 pub mod GoodSession
 pub mod LineLemmas
 pub mod OverLemmas

@@ -1,5 +1,8 @@
+pub mod AlikeStores
 pub mod ClientKeeps
 pub mod Order
+pub mod PrefsBasis
+pub mod Replays
 pub mod Run
 pub mod RunExamples
 pub mod Scene

@@ -8,6 +8,8 @@ use Rattle.hist_journal.specs.declared.seen.KindSeen.TheVariants.{Raise, Edit, S
 use Rattle.shelf.specs.declared.store.Store.{Store}
 use Rattle.shelf.specs.Calls.{Call}
 use Rattle.shelf.specs.Entries.{is_death}
+use Rattle.shelf.specs.Images.{main_at}
+use Rattle.shelf.specs.Legal.{Legal}
 use Rattle.shelf.specs.World.{Rules, World}
 use Rattle.node_core.specs.Phases.{is_holding}
 use Rattle.node_core.specs.Reading.{ReadsTruly}
@@ -58,3 +60,9 @@ module _ {V T M : Type 0} (r : Rules V T) (s : Store V M) where
   pub record ShelfKeeps (w : World V T) : Type 0 where
     pub told : w.told ≡ true
     pub reads : ReadsTruly r s w
+
+  -- what is kept in the end of a run: the history is lawful, and main is what it comes to
+  pub record EndKeeps (end : Scene V T) : Type 0 where
+    pub scene : SceneKeeps end
+    pub history : Legal r.meanings s end.world.history
+    pub main : end.world.folder.main ≡ main_at r.meanings r.encoded s end.world.history

@@ -7,6 +7,7 @@ use Rattle.prefs_model.specs.declared.pref_pair.PrefPair.{PrefPair}
 use Rattle.prefs_text.specs.declared.seen.AnswerLineSeen.{AnswerLineSeen}
 use Rattle.prefs_text.specs.declared.seen.AnswerSeen.{AnswerSeen}
 use Rattle.prefs_text.specs.declared.seen.AnswerSeen.TheVariants.{Updated}
+use Rattle.shelf.specs.declared.store.Store.{Store}
 use Rattle.shelf.specs.Base.{HasItsBase}
 use Rattle.script_lang.specs.declared.run_line.Act.{Act}
 use Rattle.script_lang.specs.declared.run_line.Act.TheVariants as act
@@ -18,6 +19,7 @@ use Rattle.script_lang.specs.AnswerForms.{update_error}
 use Rattle.script_lang.specs.Chronicle.{Basis, Chapter, chapter_of, first_beginning}
 use Rattle.script_lang.specs.Good.{file_seen}
 use Rattle.script_lang.specs.TranscriptView.{SessionSeen}
+use Rattle.replay_run.specs.AlikeStores.{IsAlike}
 use Rattle.replay_run.specs.Order.{Order, Task, Go, Update}
 use Rattle.replay_run.specs.Run.{IsRun}
 use Rattle.replay_run.specs.Scene.{Answered, Scene}
@@ -57,10 +59,13 @@ module _ (b : Basis) where
   -- its clients follow the lines in a session of the store, whose base is what main reads as, and the transcript tells of the end
   pub record IsPlayed (script : Script) (c : Chapter) : Type 0 where
     pub base : HasItsBase b.rules.reads b.rules.absent c.store
+    -- of its folder more may be known
+    pub store : Store (List PrefPair) (Unit {0})
+    pub alike : IsAlike store c.store
     pub orders : List (Order (List EditStep))
     pub understood : map order_of c.plan.lines ≡ map (λ order. Some order) orders
     pub end : Scene (List PrefPair) (List EditStep)
-    pub run : IsRun b.rules c.store script.homes orders end
+    pub run : IsRun b.rules store script.homes orders end
     pub tells : Tells c.told end
 
   -- a run of the script gives the transcript; stops, and so further sessions, join with later work
