@@ -3,6 +3,8 @@
 //! What a run of a script is stands in its specs; its body is to come.
 #![tactic(auto)]
 
+mod laws;
 mod run_examples;
 
+pub use laws::runs_are_good;
 pub use run_examples::runs_are_as_written;
