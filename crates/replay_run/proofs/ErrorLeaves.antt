@@ -1,5 +1,5 @@
 -- A call that is answered by an error leaves no Edit and no Same, unless it may stand.
-use Rattle.std.proofs.Common.{◌≡◌, ℕ, false, List, [], refl, sym, ap, Result, Err}
+use Rattle.std.proofs.Common.{◌≡◌, ℕ, false, [], sym, ap, Result, Err}
 use Rattle.std.specs.List.{list_any}
 use Rattle.store_traits.specs.declared.update_error.UpdateError.{UpdateError}
 use Rattle.store_traits.specs.declared.update_error.UpdateError.TheVariants as error

@@ -1,8 +1,7 @@
 -- The edits of a history are those of calls that were acknowledged.
-use Rattle.std.proofs.Common.{◌≡◌, ◌∙◌, ◌⊎◌, inl, inr, ◌≤◌, ◌<◌, ◌+◌, ◌-◌, ◌&&◌, ℕ, Bool, true, false, List, [], ◌∷◌, ◌++◌, map, length, All, Contains, Option, Some, None, append_assoc, slice_get, slice_index_or, refl, sym, ap, subst, arith, Result, Ok, Err}
+use Rattle.std.proofs.Common.{◌≡◌, ◌∙◌, ◌⊎◌, inl, inr, ◌≤◌, ◌<◌, ◌+◌, ◌-◌, ◌&&◌, ℕ, Bool, true, false, List, [], ◌∷◌, ◌++◌, map, length, All, Contains, Some, None, append_assoc, slice_get, slice_index_or, refl, sym, ap, subst, arith, Ok, Err}
 use Rattle.std.specs.List.{list_any}
 use Rattle.std.proofs.lemmas.List.Elements.{All-append, All-cons, All-nil}
-use Rattle.std.proofs.lemmas.List.Folds.{list_any-append}
 use Rattle.std.proofs.lemmas.Option.{slice_get_cases}
 use Rattle.store_traits.specs.declared.ids.CallId.{CallId}
 use Rattle.store_traits.specs.declared.ids.ClientId.{ClientId}
@@ -35,7 +34,7 @@ use Rattle.script_lang.specs.GoodUpdates.{IsAcknowledged}
 use Rattle.replay_run.specs.ClientKeeps.{IsExplained, IsTrueAnswer, KeepsClient, KeepsRunning, may_stand}
 use Rattle.replay_run.specs.Order.{AreServed, Order}
 use Rattle.replay_run.specs.Run.{IsOver}
-use Rattle.replay_run.specs.Scene.{Answered, Client, Scene, call_of}
+use Rattle.replay_run.specs.Scene.{Answered, Scene, call_of}
 use Rattle.replay_run.specs.SceneKeeps.{IsOfCall, SceneKeeps, is_rough}
 use Rattle.replay_run.specs.ScriptRun.{Tells, all_answers, answered_of, order_of}
 use Rattle.replay_run.specs.ShownByAnswers.{shown_of}
@@ -45,7 +44,7 @@ use Rattle.replay_run.proofs.GoodSession.{IsToldOf, told_of, true_answer}
 use Rattle.replay_run.proofs.LineLemmas.{line_tells, result_parts}
 use Rattle.replay_run.proofs.OwnTurns.{no_part}
 use Rattle.replay_run.proofs.OverLemmas.{all_answered}
-use Rattle.replay_run.proofs.StandLemmas.{ReadFrom, Stands, all_at, contains_at, found_stands, read_from, stands_joined}
+use Rattle.replay_run.proofs.StandLemmas.{Stands, all_at, contains_at, found_stands, read_from, stands_joined}
 
 smooth_dies_none : (node : NodeId) (kind : PrefKind) → is_rough kind ≡ false → is_death_of node kind ≡ false
 smooth_dies_none node Raise smooth = refl

@@ -1,24 +1,21 @@
 -- The transcript of a run tells the truth of its script.
-use Rattle.std.proofs.Common.{◌≡◌, ◌∙◌, ℕ, Bool, true, false, List, [], ◌∷◌, ◌++◌, map, length, All, Option, Some, None, is_some, slice_get, refl, sym, ap, subst, Result, Ok, Err}
+use Rattle.std.proofs.Common.{◌≡◌, ◌∙◌, ℕ, true, false, List, [], ◌∷◌, length, None, is_some, refl, sym, ap, subst, Result, Ok, Err}
 use Rattle.std.specs.List.{filter}
 use Rattle.store_traits.specs.declared.ids.CallId.{CallId}
 use Rattle.store_traits.specs.declared.ids.ClientId.{ClientId}
 use Rattle.store_traits.specs.declared.update_error.UpdateError.{UpdateError}
 use Rattle.prefs_edit.specs.declared.edit_step.EditStep.{EditStep}
 use Rattle.prefs_model.specs.declared.pref_pair.PrefPair.{PrefPair}
-use Rattle.prefs_text.specs.declared.seen.AnswerLineSeen.{AnswerLineSeen}
 use Rattle.hist_journal.specs.declared.seen.EntrySeen.{EntrySeen}
 use Rattle.hist_journal.specs.Folds.{main_of}
 use Rattle.shelf.specs.declared.store.Store.{Store}
-use Rattle.shelf.specs.Images.{main_at}
-use Rattle.shelf.specs.Legal.{Legal}
 use Rattle.shelf.specs.World.{Rules, World}
 use Rattle.shelf.proofs.Bools.{never}
 use Rattle.shelf.proofs.StoreLemmas.{cause_alike, legal_alike}
 use Rattle.script_lang.specs.declared.script.Script.{Script}
 use Rattle.script_lang.specs.declared.session_plan.SessionPlan.{SessionPlan}
 use Rattle.script_lang.specs.declared.transcript.Transcript.{Transcript}
-use Rattle.script_lang.specs.Asked.{asked_by, is_actor}
+use Rattle.script_lang.specs.Asked.{is_actor}
 use Rattle.script_lang.specs.Chronicle.{Basis, Chapter}
 use Rattle.script_lang.specs.Each.{Each}
 use Rattle.script_lang.specs.Good.{Good}
@@ -29,9 +26,9 @@ use Rattle.replay_run.specs.AlikeStores.{IsAlike}
 use Rattle.replay_run.specs.ClientKeeps.{IsExplained, IsTrueAnswer, KeepsClient, KeepsRunning}
 use Rattle.replay_run.specs.Order.{AreServed, Order}
 use Rattle.replay_run.specs.Run.{IsOver}
-use Rattle.replay_run.specs.Scene.{Answered, Client, Scene}
+use Rattle.replay_run.specs.Scene.{Client, Scene}
 use Rattle.replay_run.specs.SceneKeeps.{EndKeeps, SceneKeeps}
-use Rattle.replay_run.specs.ScriptRun.{Runs, order_of}
+use Rattle.replay_run.specs.ScriptRun.{Runs}
 use Rattle.replay_run.specs.ShownByAnswers.{shown_of}
 use Rattle.replay_run.proofs.GoodCalls.{acknowledges, entries_asked, entries_home, formed, homes_told, none_cut}
 use Rattle.replay_run.proofs.GoodEdits.{has_causes}

@@ -3,7 +3,7 @@ use Rattle.std.proofs.Common.{◌≡◌, ◌∙◌, ℕ, suc, zero, List, [], �
 use Rattle.std.proofs.lemmas.List.Elements.{All-contains_itself, All-head, All-tail}
 use Rattle.replay_run.proofs.LineLemmas.{nothing, one_of}
 
--- the element stands there, with so many before it
+-- the element stands in the list
 pub record Stands {X : Type 0} (xs : List X) (x : X) : Type 0 where
   pub before : List X
   pub behind : List X
