@@ -47,6 +47,11 @@ act_is other task is = nothing task is
 pub count_push : {X : Type 0} (p : X → Bool) (xs : List X) (x : X) → count_by p (xs ++ x ∷ []) ≡ count_by p xs + cond (p x) 1 0
 count_push p xs x = sum_by_push (λ x. cond (p x) 1 0) xs x
 
+-- whether an order is for a client, and whether its line is
+pub same_client : (place at client : ℕ) (b : Bool) → place ≡ at → (place == client) ≡ b → (client == at) ≡ b
+same_client place at client true own is = eq-eqb client at (sym (eqb-true place client is) ∙ own)
+same_client place at client false own is = unequal client at (λ same. never (sym is ∙ eq-eqb place client (own ∙ sym same)))
+
 module _ (script : Script) (client : ℕ) where
   abbrev number_from : List RunLine → ℕ → ℕ
   number_from before n = count_by (is_call_line_of (record { 0 = client })) before + n + 1
@@ -79,11 +84,8 @@ module _ (script : Script) (client : ℕ) where
     abbrev list_now : Bool → List Asked
     list_now b = if b then record { call = call_of script before line; act = line.act } ∷ list else list
 
-    mine : (order.place == client) ≡ true → (client == line.client.0) ≡ true
-    mine is = eq-eqb client line.client.0 (sym (eqb-true order.place client is) ∙ own)
-
-    not_mine : (order.place == client) ≡ false → (client == line.client.0) ≡ false
-    not_mine is = unequal client line.client.0 (λ same. never (sym is ∙ eq-eqb order.place client (own ∙ sym same)))
+    mine : (b : Bool) → (order.place == client) ≡ b → (client == line.client.0) ≡ b
+    mine b is = same_client order.place line.client.0 client b own is
 
     -- the line asks the client for an edit: the first, or one behind it
     asked_here : (n : ℕ) (asked : List EditStep) → line.act ≡ act.Update asked → (order.place == client) ≡ true → slice_get (asked ∷ edits_for client later) n ≡ Some edit → Contains (list_now true) (asks before n edit)
@@ -93,7 +95,7 @@ module _ (script : Script) (client : ℕ) where
         subst (λ x. Contains (list_now true) x) (asks_first before line edit lc (is ∙ ap (λ e. act.Update e) same)) (contains_first list (record { call = call_of script before line; act = line.act }))
     asked_here (suc m) asked is here found =
         contains_more list (record { call = call_of script before line; act = line.act }) (asks before (suc m) edit)
-        (renumbered list before line true m (suc m) edit (rw (mine here, is) refl) (omega arith) (deeper m found))
+        (renumbered list before line true m (suc m) edit (rw (mine true here, is) refl) (omega arith) (deeper m found))
 
     asked_step : (n : ℕ) (b : Bool) → (order.place == client) ≡ b
         → (((asked : List EditStep) × (line.act ≡ act.Update asked) × (order.task ≡ Update asked)) ⊎ ((steps : ℕ) × (line.act ≡ act.Go steps) × (order.task ≡ Go steps)))
@@ -105,7 +107,7 @@ module _ (script : Script) (client : ℕ) where
     asked_step n false apart (inl updates) found =
         let call : is_call_line line ≡ true = ap is_call_act updates.1 in
         subst (λ b. Contains (list_now b) (asks before n edit)) (sym call)
-        (contains_more list (record { call = call_of script before line; act = line.act }) (asks before n edit) (renumbered list before line false n n edit (rw (not_mine apart) refl) (omega arith) (deeper n found)))
+        (contains_more list (record { call = call_of script before line; act = line.act }) (asks before n edit) (renumbered list before line false n n edit (rw (mine false apart) refl) (omega arith) (deeper n found)))
     asked_step n true here (inr goes) found =
         let call : is_call_line line ≡ false = ap is_call_act goes.1 in
         let now : slice_get (edits_for client later) n ≡ Some edit = subst (λ t. slice_get (task_edits t ++ edits_for client later) n ≡ Some edit) goes.2 found in

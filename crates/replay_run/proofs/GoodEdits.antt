@@ -136,17 +136,17 @@ module _ (b : Basis) (script : Script) (c : Chapter) (end : Scene (List PrefPair
         let part = both_parts (is_call call x.who) (is_fault_of Folder x.kind) own in never (sym (smooth_fails_none Folder x.kind (is_fine before x behind is)) ∙ part.1)
 
     -- what was answered by an error has no Edit and no Same
-    no_error : {X : Type 0} (shown : ℕ) (edit : List EditStep) (call : CallId) (err : UpdateError) → call ≡ e.who → HasCause b.rules c.store shown call edit err end.world.history
-        → (list_any (is_own is_update call) end.world.history ≡ false → X) → (may_stand (Err err) ≡ false → list_any (is_own is_update call) end.world.history ≡ false) → X
-    no_error shown edit call (error.NotDurable place) own it then none =
+    no_error : {X : Type 0} (shown : ℕ) (edit : List EditStep) (call : CallId) (err : UpdateError) → HasCause b.rules c.store shown call edit err end.world.history
+        → (may_stand (Err err) ≡ false → X) → X
+    no_error shown edit call (error.NotDurable place) it none =
         elim it [
           | inl changed ↦ (let failed = changed.failed in
               no_fault call (failed.before ++ failed.first ∷ failed.between) failed.second failed.behind (failed.is ∙ sym (append_assoc failed.before (failed.first ∷ failed.between) (failed.second ∷ failed.behind))) failed.closes)
           | inr same ↦ no_fault call same.fault.before same.fault.entry same.fault.behind same.fault.is same.fault.passed
         ]
-    no_error shown edit call (error.Died place) own it then none =
+    no_error shown edit call (error.Died place) it none =
         let death = it.death in never (sym (smooth_dies_none call.node death.entry.kind (is_fine death.before death.entry death.behind death.is)) ∙ death.passed)
-    no_error shown edit call other own it then none = then (none refl)
+    no_error shown edit call other it none = none refl
 
     stands_own : (call : CallId) → call ≡ e.who → is_own is_update call e ≡ true
     stands_own call own = rw (own, update, itself e.who) refl
@@ -183,19 +183,16 @@ module _ (b : Basis) (script : Script) (c : Chapter) (end : Scene (List PrefPair
             | inl updated ↦ of_updated updated.0 updated.1 updated.2
             | inr failed ↦ (let explained : HasCause b.rules c.store (shown_of end.world.history it.within) it.a.call truth.edit failed.0 end.world.history =
                 subst (λ answer. IsExplained b.rules c.store (shown_of end.world.history it.within) it.a.call truth.edit answer end.world.history) failed.2 truth.explained in
-                no_error (shown_of end.world.history it.within) truth.edit it.a.call failed.0 (sym it.tells_it.call ∙ own) explained not_none
-                (λ out. truth.none (ap (λ answer. may_stand answer) failed.2 ∙ out)))
+                no_error (shown_of end.world.history it.within) truth.edit it.a.call failed.0 explained
+                (λ out. not_none (truth.none (ap (λ answer. may_stand answer) failed.2 ∙ out))))
           ]
-
-  edit_stands : (before : List PrefEntry) (e : PrefEntry) (behind : List PrefEntry) → c.told.entries ≡ before ++ e ∷ behind → is_update e.kind ≡ true → IsOwnEdit b c e
-  edit_stands before e behind is update =
-      let for_it = answered_for e (entry_of b script c end tells keeps orders served understood asked one_each before e behind is) in
-      let from = read_from answered_of c.told.answers for_it.at.before for_it.a for_it.at.behind (rw (← for_it.at.is) tells.answers) in
-      own_edit e (record { before = before; behind = behind; is = is }) update from.at.before from.x from.at.behind from.at.is ((line_tells from.x for_it.a from.reads).call ∙ for_it.call)
 
   -- G6: each Edit and Same is of a call that was acknowledged, and carries its edit
   pub edits_own : Each (λ before e. is_update e.kind ≡ true → IsOwnEdit b c e) c.told.entries
-  edits_own before e behind is update = edit_stands before e behind is update
+  edits_own before e behind is update =
+      let for_it = answered_for e (entry_of b script c end tells keeps orders served understood asked one_each before e behind is) in
+      let from = read_from answered_of c.told.answers for_it.at.before for_it.a for_it.at.behind (rw (← for_it.at.is) tells.answers) in
+      own_edit e (record { before = before; behind = behind; is = is }) update from.at.before from.x from.at.behind from.at.is ((line_tells from.x for_it.a from.reads).call ∙ for_it.call)
 
   pub has_causes : HasCauses b c
   has_causes = record { errors = errors_caused b script c end tells keeps orders served understood asked one_each; edits = edits_own }

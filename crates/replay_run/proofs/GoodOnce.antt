@@ -10,7 +10,6 @@ use Rattle.store_traits.specs.declared.ids.NodeId.{NodeId}
 use Rattle.prefs_edit.specs.declared.edit_step.EditStep.{EditStep}
 use Rattle.prefs_model.specs.declared.pref_pair.PrefPair.{PrefPair}
 use Rattle.prefs_text.specs.declared.seen.AnswerLineSeen.{AnswerLineSeen}
-use Rattle.shelf.proofs.Bools.{never}
 use Rattle.script_lang.specs.declared.run_line.Act.TheVariants as act
 use Rattle.script_lang.specs.declared.run_line.RunLine.{RunLine}
 use Rattle.script_lang.specs.declared.script.Script.{Script}
@@ -24,7 +23,7 @@ use Rattle.replay_run.specs.Run.{IsOver}
 use Rattle.replay_run.specs.Scene.{Answered, Client, Scene}
 use Rattle.replay_run.specs.SceneKeeps.{SceneKeeps}
 use Rattle.replay_run.specs.ScriptRun.{Tells, all_answers, answered_of, order_of}
-use Rattle.replay_run.proofs.AskedLemmas.{act_is, count_push, order_is}
+use Rattle.replay_run.proofs.AskedLemmas.{act_is, count_push, order_is, same_client}
 use Rattle.replay_run.proofs.BeginKeeps.{second_none}
 use Rattle.replay_run.proofs.GoodCalls.{client_home}
 use Rattle.replay_run.proofs.GoodSession.{all_each, all_flat}
@@ -121,11 +120,8 @@ module _ (script : Script) (client : ℕ) where
     abbrev list_now : Bool → List Asked
     list_now b = if b then asked_now ∷ list else list
 
-    mine : (order.place == client) ≡ true → (client == line.client.0) ≡ true
-    mine is = eq-eqb client line.client.0 (sym (eqb-true order.place client is) ∙ own)
-
-    not_mine : (order.place == client) ≡ false → (client == line.client.0) ≡ false
-    not_mine is = unequal client line.client.0 (λ same. never (sym is ∙ eq-eqb order.place client (own ∙ sym same)))
+    mine : (b : Bool) → (order.place == client) ≡ b → (client == line.client.0) ≡ b
+    mine b is = same_client order.place line.client.0 client b own is
 
     numbers_on : (b : Bool) → is_call_line_of who line ≡ b → own_calls list ≡ map own_call (count_from (next_number before + cond b 1 0) (length (edits_for client later)))
     numbers_on b is =
@@ -145,8 +141,8 @@ module _ (script : Script) (client : ℕ) where
     asked_first : (edit : List EditStep) → is_call_line line ≡ true → (order.place == client) ≡ true → own_calls (list_now true) ≡ map own_call (count_from (next_number before) (length (edit ∷ edits_for client later)))
     unfolding count_from
     asked_first edit call here =
-        let rest : own_calls list ≡ map own_call (count_from (next_number before + 1) (length (edits_for client later))) = numbers_on true (rw (mine here, call) refl) in
-        rw (mine here, call_now here, rest) refl
+        let rest : own_calls list ≡ map own_call (count_from (next_number before + 1) (length (edits_for client later))) = numbers_on true (rw (mine true here, call) refl) in
+        rw (mine true here, call_now here, rest) refl
 
     asked_line : (b : Bool) → (order.place == client) ≡ b
         → (((edit : List EditStep) × (line.act ≡ act.Update edit) × (order.task ≡ Update edit)) ⊎ ((steps : ℕ) × (line.act ≡ act.Go steps) × (order.task ≡ Go steps)))
@@ -158,8 +154,8 @@ module _ (script : Script) (client : ℕ) where
         (subst (λ t. own_calls (list_now true) ≡ map own_call (count_from (next_number before) (length (task_edits t ++ edits_for client later)))) (sym updates.2) now)
     asked_line false apart (inl updates) =
         let call : is_call_line line ≡ true = ap is_call_act updates.1 in
-        let other : is_call_line_of who line ≡ false = rw (not_mine apart) refl in
-        subst (λ b. own_calls (list_now b) ≡ map own_call (count_from (next_number before) (length (edits_for client later)))) (sym call) (rw (not_mine apart) (others_on other))
+        let other : is_call_line_of who line ≡ false = rw (mine false apart) refl in
+        subst (λ b. own_calls (list_now b) ≡ map own_call (count_from (next_number before) (length (edits_for client later)))) (sym call) (rw (mine false apart) (others_on other))
     asked_line true here (inr goes) =
         let call : is_call_line line ≡ false = ap is_call_act goes.1 in
         let other : is_call_line_of who line ≡ false = second_none (client == line.client.0) (is_call_line line) call in
