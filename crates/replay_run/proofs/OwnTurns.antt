@@ -1,0 +1,320 @@
+-- What a turn of a call leaves where no node has died: entries of its own, and the lock with it, free or as it was.
+use Rattle.std.proofs.Common.{◌≡◌, ◌∙◌, ◌⊎◌, inl, inr, ◌==◌, ℕ, Bool, true, false, ◌||◌, List, [], ◌∷◌, ◌++◌, map, drop, length, Option, Some, None, IfSome, unwrap_or, append_assoc, append-nil, refl, sym, ap, arith, if◌then◌else◌, Result, Ok, Err}
+use Rattle.std.specs.List.{list_any}
+use Rattle.std.specs.Option.{option_or}
+use Rattle.std.proofs.lemmas.Bool.{eq-eqb}
+use Rattle.store_traits.specs.Faults.{Rose}
+use Rattle.store_traits.specs.declared.ids.CallId.{CallId}
+use Rattle.store_traits.specs.declared.ids.NodeId.{NodeId}
+use Rattle.store_traits.specs.declared.update_error.UpdateError.{UpdateError}
+use Rattle.store_traits.specs.declared.update_error.UpdateError.TheVariants as error
+use Rattle.folder_disk.specs.Contents.{Contents}
+use Rattle.hist_journal.specs.declared.device.Device.TheVariants.{Folder}
+use Rattle.hist_journal.specs.declared.seen.EntrySeen.{EntrySeen}
+use Rattle.hist_journal.specs.declared.seen.KindSeen.{KindSeen}
+use Rattle.hist_journal.specs.declared.seen.KindSeen.TheVariants.{Raise, Fault, Death, Inited}
+use Rattle.hist_journal.specs.Folds.{edition_of}
+use Rattle.hist_journal.specs.Nodes.{is_ready, last_mark, ready_mark, mark_if}
+use Rattle.hist_journal.specs.Kinds.{is_call, is_node}
+use Rattle.hist_journal.proofs.NodeLemmas.{is_ready-push, last_mark-append}
+use Rattle.shelf.specs.declared.progress.Progress.{Progress}
+use Rattle.shelf.specs.declared.progress.Progress.TheVariants.{Moved, Blocked, Ended}
+use Rattle.shelf.specs.declared.store.Store.{Store}
+use Rattle.shelf.specs.ApplyRow.{Applies}
+use Rattle.shelf.specs.Calls.{At, First, ReadingFirst, Migrating, Finishing, Reading, Raising, Creating, Appending, SyncingScratch, Renaming, SyncingFolder, Gone, Plan, is_first, is_gone}
+use Rattle.shelf.specs.Effects.{Does, DoesLast, Fails, Stops, freed, is_ready_now, with_entries}
+use Rattle.shelf.specs.Endings.{synced_kinds}
+use Rattle.shelf.specs.Entries.{is_death}
+use Rattle.shelf.specs.LastRows.{kept_edit}
+use Rattle.shelf.specs.LockRow.{Waits}
+use Rattle.shelf.specs.ReadRows.{ReadRow, ToMigrations}
+use Rattle.shelf.specs.Turn.{Row, Turn, TurnBy, begin, dies_now, has_died_by}
+use Rattle.shelf.specs.World.{Rules, World, Turned}
+use Rattle.shelf.specs.WriteRows.{piece_written}
+use Rattle.shelf.proofs.Bools.{never}
+use Rattle.shelf.proofs.DeathLemmas.{has_not_died}
+use Rattle.shelf.proofs.StepLemmas.{ended_leaves, itself}
+use Rattle.node_core.specs.Knows.{Knows}
+use Rattle.node_core.specs.Phases.{is_finishing, is_holding}
+use Rattle.node_core.specs.Plans.{PlanAt}
+use Rattle.node_core.proofs.KeepingLemmas.{waits_by}
+use Rattle.replay_run.specs.SceneKeeps.{is_rough}
+use Rattle.replay_run.specs.ShownByAnswers.{printed_by}
+
+either_mark : (later first : Option Bool) → unwrap_or later true ≡ true → unwrap_or first true ≡ true → unwrap_or (option_or later first) true ≡ true
+either_mark None first is was = was
+either_mark (Some b) first is was = is
+
+pub no_part : (x y : Bool) → (x || y) ≡ false → (x ≡ false) × (y ≡ false)
+no_part true y none = never (sym none)
+no_part false y none = (refl, none)
+
+kept_mark : (later first : Option Bool) → unwrap_or later true ≡ true → unwrap_or first false ≡ true → unwrap_or (option_or later first) false ≡ true
+kept_mark None first is was = was
+kept_mark (Some b) first is was = is
+
+synced_alive : (V : Type 0) {T : Type 0} (call : CallId) (kept : Option T) → list_any (λ (e : EntrySeen V T). is_death e.kind) (map (λ kind. record { who = call; kind = kind }) (synced_kinds kept)) ≡ false
+synced_alive V call None = refl
+synced_alive V call (Some edit) = refl
+
+synced_smooth : (V : Type 0) {T : Type 0} (call : CallId) (kept : Option T) → list_any (λ (e : EntrySeen V T). is_rough e.kind) (map (λ kind. record { who = call; kind = kind }) (synced_kinds kept)) ≡ false
+synced_smooth V call None = refl
+synced_smooth V call (Some edit) = refl
+
+-- a count that is 0 has not risen
+not_risen : (before now : ℕ) → now ≡ 0 → Rose before now → ⊥
+not_risen before now none (inl less) = omega (arith, none, less)
+not_risen before now none (inr most) = omega (arith, none, most)
+
+lock_holds : (V : Type 0) {T : Type 0} (b : Bool) (edit : T) → is_holding {V = V} (if b then Reading edit else ReadingFirst edit) ≡ true
+lock_holds V true edit = refl
+lock_holds V false edit = refl
+
+module _ {V T : Type 0} where
+  abbrev pub dies : EntrySeen V T → Bool
+  dies e = is_death e.kind
+
+  abbrev pub entries_of : CallId → List (KindSeen V T) → List (EntrySeen V T)
+  entries_of call kinds = map (λ kind. record { who = call; kind = kind }) kinds
+
+  all_added : (call : CallId) (kinds : List (KindSeen V T)) (list : List (EntrySeen V T)) → with_entries call kinds list ≡ list ++ entries_of call kinds
+  all_added call [] list = sym (append-nil list)
+  all_added call (kind ∷ kinds) list = all_added call kinds (list ++ record { who = call; kind = kind } ∷ []) ∙ append_assoc list (record { who = call; kind = kind } ∷ []) (entries_of call kinds)
+
+  -- a test that passes no entry of the call passes none of these
+  pub none_passes : (call : CallId) (kinds : List (KindSeen V T)) (p : EntrySeen V T → Bool) → ((kind : KindSeen V T) → p (record { who = call; kind = kind }) ≡ false) → list_any p (entries_of call kinds) ≡ false
+  none_passes call [] p none = refl
+  none_passes call (kind ∷ kinds) p none = rw (none kind) (none_passes call kinds p none)
+
+  abbrev pub stumbles : EntrySeen V T → Bool
+  stumbles e = is_rough e.kind
+
+  -- the turn adds these entries of its call, none of them a Death, and plans no death; where no call of the folder fails, they are those of an update that goes well
+  pub record AddsOwn (t : Turned V T) : Type 0 where
+    pub kinds : List (KindSeen V T)
+    pub added : t.world_after.history ≡ t.world.history ++ entries_of t.call.id kinds
+    pub alive : list_any dies (entries_of t.call.id kinds) ≡ false
+    pub deaths : t.world_after.deaths ≡ t.world.deaths
+    pub smooth : t.world_after.faults ≡ 0 → list_any stumbles (entries_of t.call.id kinds) ≡ false
+
+  module _ (t : Turned V T) where
+    own_with : (kinds : List (KindSeen V T)) (now : World V T) → list_any dies (entries_of t.call.id kinds) ≡ false → (t.world_after.faults ≡ 0 → list_any stumbles (entries_of t.call.id kinds) ≡ false) → t.world_after ≡ now → now.history ≡ with_entries t.call.id kinds t.world.history → now.deaths ≡ t.world.deaths → AddsOwn t
+    own_with kinds now alive smooth is added deaths =
+        record {
+          kinds = kinds;
+          added = ap (λ (w : World V T). w.history) is ∙ (added ∙ all_added t.call.id kinds t.world.history);
+          alive = alive;
+          deaths = ap (λ (w : World V T). w.deaths) is ∙ deaths;
+          smooth = smooth;
+        }
+
+    does_own : {Makes : Contents → Contents → Type 0} {kinds : List (KindSeen V T)} {at : At V T} → list_any dies (entries_of t.call.id kinds) ≡ false → list_any stumbles (entries_of t.call.id kinds) ≡ false → Does t Makes kinds at → AddsOwn t
+    does_own {kinds = kinds} alive smooth it = own_with kinds _ alive (λ unfailed. smooth) it.world refl refl
+
+    last_own : {Makes : Contents → Contents → Type 0} {kinds : List (KindSeen V T)} → list_any dies (entries_of t.call.id kinds) ≡ false → list_any stumbles (entries_of t.call.id kinds) ≡ false → DoesLast t Makes kinds → AddsOwn t
+    last_own {kinds = kinds} alive smooth it = own_with kinds _ alive (λ unfailed. smooth) it.world refl refl
+
+    fails_own : {Part : Contents → Contents → Type 0} → Fails t Part → AddsOwn t
+    fails_own it = own_with (Fault Folder t.world_after.faults ∷ []) _ refl (λ unfailed. absurd (not_risen t.world.faults t.world_after.faults unfailed it.count)) it.world refl refl
+
+    stops_own : Stops t → AddsOwn t
+    stops_own it = own_with [] _ refl (λ unfailed. refl) it.world refl refl
+
+    same_own : t.world_after ≡ t.world → AddsOwn t
+    same_own is = own_with [] t.world refl (λ unfailed. refl) is refl refl
+
+  -- the call owns the lock still, or is at its first step and has freed it
+  abbrev GoesOn : Turned V T → Type 0
+  GoesOn t = (is_holding t.call_after.at ≡ true) ⊎ ((is_first t.call_after.at ≡ true) × (t.world_after.owner ≡ freed t.call.id t.world.owner))
+
+  filling_holds : (b : Bool) (plan : Plan V T) → is_holding (if b then SyncingScratch plan else Appending plan) ≡ true
+  filling_holds true plan = refl
+  filling_holds false plan = refl
+
+  -- an initialised node stays so where no node dies
+  mark_stays : (node : NodeId) (kind : KindSeen V T) → is_death kind ≡ false → unwrap_or (ready_mark node kind) true ≡ true
+  mark_stays node (Inited ready) none = by_node (is_node node ready)
+    where
+      by_node : (b : Bool) → unwrap_or (mark_if b true) true ≡ true
+      by_node true = refl
+      by_node false = refl
+  mark_stays node (Death died) none = never (sym none)
+  mark_stays node other none = refl
+
+  marks_stay : (node : NodeId) (more : List (EntrySeen V T)) → list_any dies more ≡ false → unwrap_or (last_mark (ready_mark node) more) true ≡ true
+  unfolding last_mark
+  marks_stay node [] none = refl
+  marks_stay node (e ∷ es) none =
+      let parts = no_part (dies e) (list_any dies es) none in
+      either_mark (last_mark (ready_mark node) es) (ready_mark node e.kind) (marks_stay node es parts.1) (mark_stays node e.kind parts.0)
+
+  pub ready_stays : (node : NodeId) (list more : List (EntrySeen V T)) → list_any dies more ≡ false → is_ready node list ≡ true → is_ready node (list ++ more) ≡ true
+  unfolding is_ready
+  ready_stays node list more none was = rw (last_mark-append (ready_mark node) list more) (kept_mark (last_mark (ready_mark node) more) (last_mark (ready_mark node) list) (marks_stay node more none) was)
+
+not_freed_by : (call : CallId) (owner : Option CallId) → freed call owner ≡ Some call → ⊥
+not_freed_by call None same = absurd (let no : ◌≡◌ {A = Option CallId} None (Some call) = same in cc)
+not_freed_by call (Some owner) same = by_own (is_call call owner) refl same
+  where
+    by_own : (own : Bool) → is_call call owner ≡ own → (if own then None else Some owner) ≡ Some call → ⊥
+    by_own true is same = absurd (let no : ◌≡◌ {A = Option CallId} None (Some call) = same in cc)
+    by_own false is same =
+        let equal : owner ≡ call = (let both : ◌≡◌ {A = Option CallId} (Some owner) (Some call) = same in cc) in
+        never (let own : is_call call owner ≡ true = rw equal (itself call) in cc)
+
+module _ {V T M : Type 0} (r : Rules V T) (s : Store V M) where
+  abbrev Gave : Type 0
+  Gave = Progress (Result ℕ UpdateError)
+
+  -- neither the node of the call has died nor a death strikes
+  pub living : (t : Turned V T) → list_any dies t.world.history ≡ false → has_died_by (begin t) ≡ false
+  living t none = has_not_died t.call.id.node (begin t).call.since t.world.history none
+
+  pub unplanned : (t : Turned V T) → t.world.deaths ≡ [] → dies_now (begin t) ≡ false
+  unplanned t none = rw none refl
+
+  read_own : (Then : V → Gave → Type 0) (t : Turned V T) (gave : Gave) → ((value : V) (gave : Gave) → Then value gave → AddsOwn t) → ReadRow r s t Then gave → AddsOwn t
+  read_own Then t (Ended (Err (error.StorageFault place))) rest it = fails_own t it.1
+  read_own Then t (Ended (Err (error.FileTooLong len))) rest it = last_own t refl refl it.1
+  read_own Then t (Ended (Err error.Corrupt)) rest it = last_own t refl refl it.2
+  read_own Then t (Ended (Err error.NoMemory)) rest it = last_own t refl refl it
+  read_own Then t other rest it = rest it.value other it.then
+
+  first_read_own : (edit : T) (t : Turned V T) (value : V) (gave : Gave) → ToMigrations r s t edit value gave → AddsOwn t
+  first_read_own edit t value Moved it = does_own t refl refl it
+  first_read_own edit t value other it = absurd it
+
+  applies_own : (edit : T) (t : Turned V T) (value : V) (gave : Gave) → Applies r s t edit value gave → AddsOwn t
+  applies_own edit t value Moved it = elim it [ inl writes ↦ does_own t refl refl writes.goes_on | inr keeps ↦ does_own t refl refl keeps.goes_on ]
+  applies_own edit t value (Ended (Err (error.Refused code edition))) it = last_own t refl refl it.2
+  applies_own edit t value (Ended (Err (error.ValueTooLong len))) it = last_own t refl refl it.1
+  applies_own edit t value other it = absurd it
+
+  row_own : (at : At V T) (t : Turned V T) (gave : Gave) → Row r s at t gave → PlanAt at → AddsOwn t
+  row_own (First edit) t Blocked it plan = same_own t it.world
+  row_own (First edit) t Moved it plan = own_with t [] _ refl (λ unfailed. refl) it.world refl refl
+  row_own (First edit) t (Ended (Err (error.HistoryFull entries weight))) it plan = stops_own t it.2
+  row_own (First edit) t (Ended (Err error.NoMemory)) it plan = stops_own t it.2
+  row_own (ReadingFirst edit) t gave it plan = read_own (ToMigrations r s t edit) t gave (first_read_own edit t) it
+  row_own (Migrating edit value) t Moved it plan = same_own t it.1.world
+  row_own (Migrating edit value) t (Ended (Err error.NoMemory)) it plan = stops_own t it
+  row_own (Finishing edit) t Moved it plan = own_with t (Inited t.call.id.node ∷ []) _ refl (λ unfailed. refl) it.world refl refl
+  row_own (Reading edit) t gave it plan = read_own (Applies r s t edit) t gave (applies_own edit t) it
+  row_own (Raising plan) t Moved it so = own_with t (Raise ∷ []) _ refl (λ unfailed. refl) it.world refl refl
+  row_own (Creating plan) t Moved it so = does_own t refl refl it
+  row_own (Creating plan) t (Ended (Err (error.StorageFault place))) it so = fails_own t it.1
+  row_own (Appending plan) t Moved it so = does_own t refl refl it
+  row_own (Appending plan) t (Ended (Err (error.StorageFault place))) it so = fails_own t it.1
+  row_own (SyncingScratch plan) t Moved it so = does_own t refl refl it
+  row_own (SyncingScratch plan) t (Ended (Err (error.StorageFault place))) it so = fails_own t it.1
+  row_own (Renaming plan) t Moved it so = does_own t (rw so.asked.is refl) (rw so.asked.is refl) it
+  row_own (Renaming plan) t (Ended (Err (error.StorageFault place))) it so = fails_own t it.1
+  row_own (SyncingFolder ending) t (Ended (Ok edition)) it plan = last_own t (synced_alive V t.call.id (kept_edit ending)) (synced_smooth V t.call.id (kept_edit ending)) it.1
+  row_own (SyncingFolder ending) t (Ended (Err (error.NotDurable place))) it plan = fails_own t it.1
+  row_own at t other it plan = absurd it
+
+  -- where no node has died and no death is planned, a turn is its row
+  abbrev AtRow : Turned V T → Gave → Type 0
+  AtRow t gave = (is_gone t.call.at ≡ false) × Row r s t.call.at (begin t) gave
+
+  row_by : (gone died dies : Bool) (t : Turned V T) (gave : Gave) → died ≡ false → dies ≡ false → TurnBy r s gone died dies t gave → (gone ≡ false) × Row r s t.call.at t gave
+  row_by true died dies t gave lives unplanned it = absurd it
+  row_by false true dies t gave lives unplanned it = never (sym lives)
+  row_by false false true t gave lives unplanned it = never (sym unplanned)
+  row_by false false false t gave lives unplanned it = (refl, it)
+
+  module _ (t : Turned V T) (alive : list_any dies t.world.history ≡ false) (none : t.world.deaths ≡ []) where
+    pub turn_row : (gave : Gave) → Turn r s t gave → AtRow t gave
+    turn_row gave it = row_by (is_gone t.call.at) (has_died_by (begin t)) (dies_now (begin t)) (begin t) gave (living t alive) (unplanned t none) it
+
+    pub turn_adds_own : (gave : Gave) → Turn r s t gave → Knows r s t.world t.call → AddsOwn t
+    turn_adds_own gave it knows = let own = row_own t.call.at (begin t) gave (turn_row gave it).1 knows.plan in record { kinds = own.kinds; added = own.added; alive = own.alive; deaths = own.deaths; smooth = own.smooth }
+
+  row_goes : (at : At V T) (t : Turned V T) → Row r s at t Moved → GoesOn t
+  row_goes (First edit) t it = inl (rw it.call (lock_holds V (is_ready_now t) edit))
+  row_goes (ReadingFirst edit) t it = inl (rw it.then.call refl)
+  row_goes (Migrating edit value) t it = inl (rw it.1.call refl)
+  row_goes (Finishing edit) t it = inr (rw it.call refl, ap (λ (w : World V T). w.owner) it.world)
+  row_goes (Reading edit) t it = inl (elim it.then [ inl writes ↦ rw writes.goes_on.call refl | inr keeps ↦ rw keeps.goes_on.call refl ])
+  row_goes (Raising plan) t it = inl (rw it.call refl)
+  row_goes (Creating plan) t it = inl (rw it.call (filling_holds (length plan.text.rest == 0) plan))
+  row_goes (Appending plan) t it = inl (rw it.call (filling_holds (length (drop 4096 plan.text.rest) == 0) (piece_written plan)))
+  row_goes (SyncingScratch plan) t it = inl (rw it.call refl)
+  row_goes (Renaming plan) t it = inl (rw it.call refl)
+  row_goes (SyncingFolder ending) t it = absurd it
+  row_goes Gone t it = absurd it
+
+  row_id : (at : At V T) (t : Turned V T) → Row r s at t Moved → t.call_after.id ≡ t.call.id
+  row_id (First edit) t it = rw it.call refl
+  row_id (ReadingFirst edit) t it = rw it.then.call refl
+  row_id (Migrating edit value) t it = rw it.1.call refl
+  row_id (Finishing edit) t it = rw it.call refl
+  row_id (Reading edit) t it = elim it.then [ inl writes ↦ rw writes.goes_on.call refl | inr keeps ↦ rw keeps.goes_on.call refl ]
+  row_id (Raising plan) t it = rw it.call refl
+  row_id (Creating plan) t it = rw it.call refl
+  row_id (Appending plan) t it = rw it.call refl
+  row_id (SyncingScratch plan) t it = rw it.call refl
+  row_id (Renaming plan) t it = rw it.call refl
+  row_id (SyncingFolder ending) t it = absurd it
+  row_id Gone t it = absurd it
+
+  row_readies : (at : At V T) (t : Turned V T) → Row r s at t Moved → is_finishing at ≡ true → is_ready t.call.id.node t.world_after.history ≡ true
+  row_readies (Finishing edit) t it finishing =
+      let same : is_node t.call.id.node t.call.id.node ≡ true = eq-eqb t.call.id.node.0 t.call.id.node.0 refl in
+      let grew : t.world_after.history ≡ t.world.history ++ record { who = t.call.id; kind = Inited t.call.id.node } ∷ [] = ap (λ (w : World V T). w.history) it.world in
+      rw grew (is_ready-push t.call.id.node t.world.history (record { who = t.call.id; kind = Inited t.call.id.node }) ∙ rw same refl)
+  row_readies other t it finishing = never finishing
+
+  -- an answer prints the edition of now
+  abbrev PrintsNow : Turned V T → Result ℕ UpdateError → Type 0
+  PrintsNow t answer = IfSome (printed_by answer) (λ edition. edition ≡ edition_of t.world.history)
+
+  row_prints : (at : At V T) (t : Turned V T) (answer : Result ℕ UpdateError) → Row r s at t (Ended answer) → PrintsNow t answer
+  row_prints (ReadingFirst edit) t (Ok edition) it = absurd it.then
+  row_prints (Reading edit) t (Ok edition) it = absurd it.then
+  row_prints (SyncingFolder ending) t (Ok edition) it = it.0
+  row_prints at t (Ok edition) it = absurd it
+  row_prints (ReadingFirst edit) t (Err (error.Refused code edition)) it = absurd it.then
+  row_prints (Reading edit) t (Err (error.Refused code edition)) it = it.then.1
+  row_prints at t (Err (error.Refused code edition)) it = absurd it
+  row_prints at t other it = tt
+
+  holding_goes_on : (at : At V T) → is_holding at ≡ true → is_gone at ≡ false
+  holding_goes_on (First edit) is = refl
+  holding_goes_on Gone is = never is
+  holding_goes_on other is = refl
+
+  first_goes_on : (at : At V T) → is_first at ≡ true → is_gone at ≡ false
+  first_goes_on (First edit) is = refl
+  first_goes_on Gone is = never is
+  first_goes_on other is = refl
+
+  module _ (t : Turned V T) (alive : list_any dies t.world.history ≡ false) (none : t.world.deaths ≡ []) where
+    -- a turn that moves leaves the call going
+    pub moves_on : Turn r s t Moved → is_gone t.call_after.at ≡ false
+    moves_on it = elim (row_goes t.call.at (begin t) (turn_row t alive none Moved it).1) [ inl holds ↦ holding_goes_on t.call_after.at holds | inr first ↦ first_goes_on t.call_after.at first.0 ]
+
+    pub moved_is_same : Turn r s t Moved → t.call_after.id ≡ t.call.id
+    moved_is_same it = row_id t.call.at (begin t) (turn_row t alive none Moved it).1
+
+    -- what waits is at its first step, as it was
+    pub waits_same : Turn r s t Blocked → Waits r s (begin t)
+    waits_same it = waits_by r s (is_gone t.call.at) (has_died_by (begin t)) (dies_now (begin t)) (begin t) it
+
+    -- where the call owns the lock behind it, it holds it
+    pub moved_holds : Turn r s t Moved → t.world_after.owner ≡ Some t.call.id → is_holding t.call_after.at ≡ true
+    moved_holds it owns =
+        elim (row_goes t.call.at (begin t) (turn_row t alive none Moved it).1) [
+          | inl holds ↦ holds
+          | inr first ↦ absurd (not_freed_by t.call.id t.world.owner (sym first.1 ∙ owns))
+        ]
+
+    pub finishing_readies : Turn r s t Moved → is_finishing t.call.at ≡ true → is_ready t.call.id.node t.world_after.history ≡ true
+    finishing_readies it = row_readies t.call.at (begin t) (turn_row t alive none Moved it).1
+
+    pub prints_now : (answer : Result ℕ UpdateError) → Turn r s t (Ended answer) → PrintsNow t answer
+    prints_now answer it = row_prints t.call.at (begin t) answer (turn_row t alive none (Ended answer) it).1
+
+    -- what ends owns nothing
+    pub ended_owns_nothing : (answer : Result ℕ UpdateError) → Turn r s t (Ended answer) → t.world_after.owner ≡ Some t.call.id → ⊥
+    ended_owns_nothing answer it = (ended_leaves r s t answer it (living t alive)).1

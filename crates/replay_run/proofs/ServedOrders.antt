@@ -1,0 +1,112 @@
+-- In the end of a run the clients have been asked for what the orders say.
+use Rattle.std.proofs.Common.{◌≡◌, ◌∙◌, inl, inr, ◌+◌, ◌==◌, ℕ, suc, zero, Bool, true, false, List, [], ◌∷◌, ◌++◌, append_assoc, append-nil, Option, Some, None, slice_get, refl, sym, ap, subst, if◌then◌else◌, Result}
+use Rattle.std.proofs.lemmas.Bool.{eq-eqb}
+use Rattle.std.proofs.lemmas.List.Concat.{flat_map-append}
+use Rattle.store_traits.specs.declared.ids.NodeId.{NodeId}
+use Rattle.store_traits.specs.declared.update_error.UpdateError.{UpdateError}
+use Rattle.shelf.specs.declared.progress.Progress.{Progress}
+use Rattle.shelf.specs.declared.progress.Progress.TheVariants.{Moved, Blocked, Ended}
+use Rattle.shelf.specs.declared.store.Store.{Store}
+use Rattle.shelf.specs.Calls.{Call}
+use Rattle.shelf.specs.World.{Rules}
+use Rattle.replay_run.specs.Order.{Adds, AreServed, Does, DoesAll, Go, GoesTimes, IsServed, Order, Task, Update, edits_for, task_edits, with_edit}
+use Rattle.replay_run.specs.Run.{GoesEach, IsRun, Rounds, new_clients}
+use Rattle.replay_run.specs.Scene.{Client, Scene}
+use Rattle.replay_run.specs.Step.{Goes, at_work, begin_next, behind_turn}
+use Rattle.replay_run.proofs.SetLemmas.{found_then}
+use Rattle.replay_run.proofs.StepKeeps.{new_from}
+use Rattle.replay_run.proofs.TurnKeeps.{unequal}
+
+one_more : {T : Type 0} (place : ℕ) (orders : List (Order T)) (order : Order T) → edits_for place (orders ++ order ∷ []) ≡ edits_for place orders ++ edits_for place (order ∷ [])
+one_more place orders order = flat_map-append (λ order. if order.place == place then task_edits order.task else []) orders (order ∷ [])
+
+module _ {V T : Type 0} where
+  begins_same : (client : Client V T) (running : Option (Call V T)) (edit : Option T) → ((begin_next client running edit).node ≡ client.node) × ((begin_next client running edit).edits ≡ client.edits)
+  begins_same client None (Some edit) = (refl, refl)
+  begins_same client None None = (refl, refl)
+  begins_same client (Some call) edit = (refl, refl)
+
+  turn_same : (client : Client V T) (call : Call V T) (gave : Progress (Result ℕ UpdateError)) (call_after : Call V T) → ((behind_turn client call gave call_after).node ≡ client.node) × ((behind_turn client call gave call_after).edits ≡ client.edits)
+  turn_same client call (Ended answer) call_after = (refl, refl)
+  turn_same client call Moved call_after = (refl, refl)
+  turn_same client call Blocked call_after = (refl, refl)
+
+  served_as : (homes : List NodeId) (orders : List (Order T)) (place : ℕ) (client now : Client V T) → now.node ≡ client.node → now.edits ≡ client.edits → IsServed homes orders place client → IsServed homes orders place now
+  served_as homes orders place client now node edits it = record { home = it.home ∙ ap (λ n. Some n) (sym node); edits = edits ∙ it.edits }
+
+module _ {V T M : Type 0} (r : Rules V T) (s : Store V M) (homes : List NodeId) where
+  goes_serves : (orders : List (Order T)) (place : ℕ) (old new : Scene V T) → Goes r s place old new → AreServed homes orders old → AreServed homes orders new
+  goes_serves orders place old new (inr rests) served = subst (λ scene. AreServed homes orders scene) (sym rests.same) served
+  goes_serves orders place old new (inl steps) served =
+      λ other c found.
+      elim (found_then old.clients place other steps.client_after c (subst (λ cs. slice_get cs other ≡ Some c) steps.now found)) [
+        | inl here ↦ (let acts = steps.acts in
+            let begun = begins_same steps.client steps.client.running (slice_get steps.client.edits steps.client.begun) in
+            let turned = turn_same (at_work steps.client) acts.call acts.gave acts.call_after in
+            let after : c ≡ behind_turn (at_work steps.client) acts.call acts.gave acts.call_after = here.1 ∙ acts.now in
+            let was : IsServed homes orders place steps.client = served place steps.client steps.was in
+            subst (λ p. IsServed homes orders p c) (sym here.0)
+            (served_as homes orders place steps.client c (ap (λ (x : Client V T). x.node) after ∙ (turned.0 ∙ begun.0)) (ap (λ (x : Client V T). x.edits) after ∙ (turned.1 ∙ begun.1)) was))
+        | inr there ↦ served other c there.1
+      ]
+
+  times_serves : (orders : List (Order T)) (place steps : ℕ) (old new : Scene V T) → GoesTimes r s place steps old new → AreServed homes orders old → AreServed homes orders new
+  unfolding GoesTimes
+  times_serves orders place zero old new it served = subst (λ scene. AreServed homes orders scene) (sym it) served
+  times_serves orders place (suc steps) old new it served = times_serves orders place steps it.0 new it.2 (goes_serves orders place old it.0 it.1 served)
+
+  each_serves : (orders : List (Order T)) (place clients : ℕ) (old new : Scene V T) → GoesEach r s place clients old new → AreServed homes orders old → AreServed homes orders new
+  unfolding GoesEach
+  each_serves orders place zero old new it served = subst (λ scene. AreServed homes orders scene) (sym it) served
+  each_serves orders place (suc clients) old new it served = each_serves orders (place + 1) clients it.0 new it.2 (goes_serves orders place old it.0 it.1 served)
+
+  rounds_serve : (orders : List (Order T)) (rounds : ℕ) (old new : Scene V T) → Rounds r s rounds old new → AreServed homes orders old → AreServed homes orders new
+  unfolding Rounds
+  rounds_serve orders zero old new it served = subst (λ scene. AreServed homes orders scene) (sym it) served
+  rounds_serve orders (suc rounds) old new it served = rounds_serve orders rounds it.0 new it.2 (each_serves orders 0 _ old it.0 it.1 served)
+
+  adds_serves : (orders : List (Order T)) (place : ℕ) (edit : T) (old new : Scene V T) → Adds place edit old new → AreServed homes orders old → AreServed homes (orders ++ record { place = place; task = Update edit } ∷ []) new
+  adds_serves orders place edit old new it served =
+      λ other c found.
+      elim (found_then old.clients place other (with_edit edit it.client) c (subst (λ (scene : Scene V T). slice_get scene.clients other ≡ Some c) it.now found)) [
+        | inl here ↦ (let was : IsServed homes orders place it.client = served place it.client it.was in
+            let same : (place == other) ≡ true = eq-eqb place other (sym here.0) in
+            record {
+              home = ap (λ p. slice_get homes p) here.0 ∙ (was.home ∙ ap (λ (x : Client V T). Some x.node) (sym here.1));
+              edits =
+                  ap (λ (x : Client V T). x.edits) here.1
+                  ∙ (ap (λ es. es ++ edit ∷ []) (was.edits ∙ ap (λ p. edits_for p orders) (sym here.0)) ∙ sym (one_more other orders (record { place = place; task = Update edit }) ∙ rw same refl));
+            })
+        | inr there ↦ (let was = served other c there.1 in
+            let apart : (place == other) ≡ false = unequal place other (λ same. there.0 (sym same)) in
+            record { home = was.home; edits = was.edits ∙ sym (one_more other orders (record { place = place; task = Update edit }) ∙ rw apart (append-nil (edits_for other orders))) })
+      ]
+
+  goes_more : (orders : List (Order T)) (place steps : ℕ) (scene : Scene V T) → AreServed homes orders scene → AreServed homes (orders ++ record { place = place; task = Go steps } ∷ []) scene
+  goes_more orders place steps scene served =
+      λ other c found.
+      let was = served other c found in
+      record { home = was.home; edits = was.edits ∙ sym (one_more other orders (record { place = place; task = Go steps }) ∙ (by_place other (place == other) ∙ append-nil (edits_for other orders))) }
+    where
+      by_place : (other : ℕ) (b : Bool) → edits_for other orders ++ ((if b then [] else []) ++ []) ≡ edits_for other orders ++ []
+      by_place other true = refl
+      by_place other false = refl
+
+  all_serve : (done orders : List (Order T)) (old new : Scene V T) → DoesAll r s orders old new → AreServed homes done old → AreServed homes (done ++ orders) new
+  unfolding DoesAll
+  all_serve done [] old new it served = rw append-nil (subst (λ scene. AreServed homes done scene) (sym it) served)
+  all_serve done (order ∷ orders) old new it served =
+      subst (λ os. AreServed homes os new) (append_assoc done (order ∷ []) orders) (all_serve (done ++ order ∷ []) orders it.0 new it.2 (does_serve done order.place order.task old it.0 it.1 served))
+    where
+      does_serve : (done : List (Order T)) (place : ℕ) (task : Task T) (old new : Scene V T) → Does r s place task old new → AreServed homes done old → AreServed homes (done ++ record { place = place; task = task } ∷ []) new
+      does_serve done place (Update edit) old new it served = adds_serves done place edit old new it served
+      does_serve done place (Go steps) old new it served = goes_more done place steps new (times_serves done place steps old new it served)
+
+  start_serves : (start : Scene V T) → start.clients ≡ new_clients homes → AreServed homes [] start
+  start_serves start new =
+      λ place client found.
+      let it = new_from 0 homes place client (rw new at found) in
+      record { home = it.home ∙ ap (λ (x : Client V T). Some x.node) (sym it.is); edits = ap (λ (x : Client V T). x.edits) it.is }
+
+  pub run_serves : (orders : List (Order T)) (end : Scene V T) → IsRun r s homes orders end → AreServed homes orders end
+  run_serves orders end run = rounds_serve orders run.rounds run.between end run.rest (all_serve [] orders run.start run.between run.ordered (start_serves run.start run.clients))

@@ -1,0 +1,335 @@
+-- A scene keeps what it keeps as a call that runs takes a turn.
+use Rattle.std.proofs.Common.{◌≡◌, ◌∙◌, inl, inr, ◌≤◌, ◌<◌, ◌+◌, ◌==◌, ◌&&◌, ◌||◌, ℕ, nat_le, Bool, true, false, List, All, [], ◌∷◌, ◌++◌, length, length-append, Option, Some, None, IfSome, append_assoc, slice_get, slice_set, slice_index_or, refl, sym, ap, subst, arith, Result, Ok, Err}
+use Rattle.std.specs.List.{list_any}
+use Rattle.std.proofs.lemmas.Bool.{eqb-true}
+use Rattle.std.proofs.lemmas.Bool.Decides.{nat_tests}
+use Rattle.std.proofs.lemmas.List.Elements.{All-append, All-map}
+use Rattle.std.proofs.lemmas.List.Folds.{list_any-append}
+use Rattle.std.proofs.lemmas.Option.{IfSome_then}
+use Rattle.store_traits.specs.declared.ids.CallId.{CallId}
+use Rattle.store_traits.specs.declared.update_error.UpdateError.{UpdateError}
+use Rattle.store_traits.specs.declared.update_error.UpdateError.TheVariants as error
+use Rattle.hist_journal.specs.declared.seen.EntrySeen.{EntrySeen}
+use Rattle.hist_journal.specs.declared.seen.KindSeen.{KindSeen}
+use Rattle.hist_journal.specs.declared.seen.KindSeen.TheVariants.{Edit}
+use Rattle.hist_journal.specs.Folds.{edition_of}
+use Rattle.hist_journal.specs.Kinds.{is_call}
+use Rattle.hist_journal.specs.Nodes.{is_ready}
+use Rattle.shelf.specs.declared.progress.Progress.{Progress}
+use Rattle.shelf.specs.declared.progress.Progress.TheVariants.{Moved, Blocked, Ended}
+use Rattle.shelf.specs.declared.store.Store.{Store}
+use Rattle.shelf.specs.Calls.{At, Call, First, SyncingFolder, Changed, Kept, is_first, is_gone}
+use Rattle.shelf.specs.Entries.{is_any, is_own, is_update}
+use Rattle.shelf.specs.Meanwhile.{NoneOf}
+use Rattle.shelf.specs.Places.{is_up_to}
+use Rattle.shelf.specs.Turn.{Turn}
+use Rattle.shelf.specs.World.{Rules, Turned, World}
+use Rattle.shelf.proofs.Bools.{never, or_either}
+use Rattle.shelf.proofs.DeathLemmas.{has_not_died}
+use Rattle.shelf.proofs.StepLemmas.{itself, turn_waits}
+use Rattle.node_core.specs.Own.{HasChanged, IsFor}
+use Rattle.node_core.specs.Phases.{is_finishing}
+use Rattle.node_core.proofs.Acknowledging.{update_is_acknowledged}
+use Rattle.node_core.proofs.BetweenLemmas.{between_keeps_knowledge}
+use Rattle.node_core.proofs.CauseOfAnswers.{error_has_cause}
+use Rattle.node_core.proofs.ForLemmas.{turn_is_for}
+use Rattle.node_core.proofs.KeepingLemmas.{turn_keeps_knowledge}
+use Rattle.node_core.proofs.SparingLemmas.{turn_owner, turn_spares}
+use Rattle.script_lang.specs.Each.{Each}
+use Rattle.replay_run.specs.ClientKeeps.{IsExplained, IsTrueAnswer, KeepsCall, KeepsClient, KeepsRunning, may_stand}
+use Rattle.replay_run.specs.Scene.{Answered, Client, Scene, call_of}
+use Rattle.replay_run.specs.SceneKeeps.{HasOwner, IsOfCall, SceneKeeps, ShelfKeeps}
+use Rattle.replay_run.specs.ShownByAnswers.{printed_by, shown_of}
+use Rattle.replay_run.specs.Step.{behind_turn}
+use Rattle.replay_run.proofs.AnswerLemmas.{answers_more, answers_same, cause_of_less, each-push, shown_stays, shown_within}
+use Rattle.replay_run.proofs.BeginKeeps.{middle_none}
+use Rattle.replay_run.proofs.ErrorLeaves.{error_leaves_none}
+use Rattle.replay_run.proofs.OwnTurns.{AddsOwn, dies, ended_owns_nothing, entries_of, finishing_readies, living, moved_holds, moved_is_same, moves_on, none_passes, prints_now, ready_stays, stumbles, turn_adds_own, waits_same}
+use Rattle.replay_run.proofs.ReplacedClient.{entries_on, one_of_it, owner_apart, same_call}
+use Rattle.replay_run.proofs.SetLemmas.{found_then, set_found}
+
+up_to_none : (same : Bool) (number begun : ℕ) → number < begun → (same && nat_le begun number) ≡ false
+up_to_none same number begun less = grind (arith, nat_tests, less)
+
+pub unequal : (a b : ℕ) → (a ≡ b → ⊥) → (a == b) ≡ false
+unequal a b apart = by_test (a == b) refl
+  where
+    by_test : (t : Bool) → (a == b) ≡ t → t ≡ false
+    by_test true is = absurd (apart (eqb-true a b is))
+    by_test false is = refl
+
+module _ {V T : Type 0} where
+  pub first_not_finishing : (at : At V T) → is_first at ≡ true → is_finishing at ≡ false
+  first_not_finishing (First edit) is = refl
+  first_not_finishing other is = never is
+
+  -- a turn leaves its client its node, and the calls that have begun
+  behind_same : (client : Client V T) (call : Call V T) (gave : Progress (Result ℕ UpdateError)) (call_after : Call V T)
+      → ((behind_turn client call gave call_after).node ≡ client.node) × ((behind_turn client call gave call_after).begun ≡ client.begun)
+  behind_same client call (Ended answer) call_after = (refl, refl)
+  behind_same client call Moved call_after = (refl, refl)
+  behind_same client call Blocked call_after = (refl, refl)
+
+  abbrev changed_more : (call : CallId) (place : ℕ) (list more : List (EntrySeen V T)) → NoneOf call more → HasChanged call place list → HasChanged call place (list ++ more)
+  changed_more call place list more none has =
+      record {
+        before = has.before;
+        edit = has.edit;
+        behind = has.behind ++ more;
+        is = ap (λ (xs : List (EntrySeen V T)). xs ++ more) has.is ∙ append_assoc has.before (record { who = call; kind = Edit has.edit } ∷ has.behind) more;
+        early = has.early;
+        last = list_any-append (is_own is_any call) has.behind more ∙ rw (has.last, none) refl;
+        counted = has.counted;
+      }
+
+  -- others leave a call at work for its transform
+  still_for : (call : CallId) (edit : T) (at : At V T) (list more : List (EntrySeen V T)) → NoneOf call more → IsFor call edit at list → IsFor call edit at (list ++ more)
+  still_for call edit (SyncingFolder (Changed place)) list more none so = (changed_more call place list more none so.0, so.1)
+  still_for call edit (SyncingFolder (Kept asked)) list more none so = so
+  still_for call edit other list more none so = so
+
+module _ {V T M : Type 0} (r : Rules V T) (s : Store V M) where
+  module _ (scene : Scene V T) (place : ℕ) (client : Client V T) (call call_after : Call V T) (world_after : World V T) (gave : Progress (Result ℕ UpdateError)) where
+    abbrev turned : Turned V T
+    turned = record { world = scene.world; call = call; world_after = world_after; call_after = call_after }
+
+    abbrev now : Client V T
+    now = behind_turn client call gave call_after
+
+    abbrev scene_after : Scene V T
+    scene_after = record { world = world_after; clients = slice_set scene.clients place now }
+
+    module _ (found : slice_get scene.clients place ≡ Some client) (runs : client.running ≡ Some call) (turn : Turn r s turned gave) (memory : gave ≡ Ended (Err error.NoMemory) → ⊥) (unfailed : world_after.faults ≡ scene.world.faults) (keeps : SceneKeeps r s scene)
+        (shelf : ShelfKeeps r s scene.world) where
+      mine : KeepsClient r s place scene.world client
+      mine = keeps.clients place client found
+
+      kept : KeepsCall r s client scene.world call
+      kept = subst (λ o. KeepsRunning r s client scene.world o) runs mine.running
+
+      adds : AddsOwn turned
+      adds = turn_adds_own r s turned keeps.alive keeps.unplanned gave turn kept.knows
+
+      abbrev more : List (EntrySeen V T)
+      more = entries_of call.id adds.kinds
+
+      alive_after : list_any dies world_after.history ≡ false
+      alive_after = rw adds.added (list_any-append dies scene.world.history more ∙ rw (keeps.alive, adds.alive) refl)
+
+      at_place : call.id.client.0 ≡ place
+      at_place = ap (λ (id : CallId). id.client.0) kept.id ∙ mine.id
+
+      number_is : call.id.number ≡ length client.answered + 1
+      number_is = ap (λ (id : CallId). id.number) kept.id ∙ kept.counted
+
+      -- a client at another place
+      module _ (other : ℕ) (c : Client V T) (apart : other ≡ place → ⊥) (other_found : slice_get scene.clients other ≡ Some c) where
+        theirs : KeepsClient r s other scene.world c
+        theirs = keeps.clients other c other_found
+
+        differ : (c.id.0 == call.id.client.0) ≡ false
+        differ = unequal c.id.0 call.id.client.0 (λ same. apart (sym theirs.id ∙ (same ∙ at_place)))
+
+        over_others : (number : ℕ) → list_any (is_up_to (call_of c number)) more ≡ false
+        over_others number = none_passes call.id adds.kinds (is_up_to (call_of c number)) (λ kind. rw differ refl)
+
+        running_stays : (running : Option (Call V T)) → KeepsRunning r s c scene.world running → KeepsRunning r s c world_after running
+        running_stays None it = it
+        running_stays (Some o) it =
+            let o_differs : (o.id.client.0 == call.id.client.0) ≡ false = rw it.id differ in
+            let none_own : NoneOf o.id more = none_passes call.id adds.kinds (is_own is_any o.id) (λ kind. rw (middle_none (o.id.node.0 == call.id.node.0) (o.id.client.0 == call.id.client.0) (o.id.number == call.id.number) o_differs) refl) in
+            record {
+              counted = it.counted;
+              id = it.id;
+              edit = it.edit;
+              asked = it.asked;
+              is_for = rw adds.added (still_for o.id it.edit o.at scene.world.history more none_own it.is_for);
+              knows =
+                  between_keeps_knowledge r s o scene.world world_after it.knows (turn_spares r s turned gave turn kept.knows o o_differs it.knows)
+                  (has_not_died o.id.node o.since world_after.history alive_after);
+              goes_on = it.goes_on;
+              ready = λ is. rw adds.added (ready_stays c.node scene.world.history more adds.alive (it.ready is));
+            }
+
+        client_stays : KeepsClient r s other world_after c
+        client_stays =
+            record {
+              id = theirs.id;
+              running = running_stays c.running theirs.running;
+              answers = rw adds.added (answers_more r s c scene.world.history more c.answered theirs.answers (λ number within. over_others number));
+            }
+
+      -- the client itself: its answers stay true, and a new one is
+      over_own : (number : ℕ) → number ≤ length client.answered → list_any (is_up_to (call_of client number)) more ≡ false
+      over_own number within =
+          none_passes call.id adds.kinds (is_up_to (call_of client number)) (λ kind. up_to_none (client.id.0 == call.id.client.0) number call.id.number (omega (arith, within, number_is)))
+
+      still_true : Each (IsTrueAnswer r s client world_after.history) client.answered
+      still_true = rw adds.added (answers_more r s client scene.world.history more client.answered mine.answers over_own)
+
+      within_now : shown_of world_after.history client.answered ≤ edition_of scene.world.history
+      within_now = rw (adds.added, shown_stays r s client scene.world.history more client.answered mine.answers) (shown_within r s client scene.world.history client.answered mine.answers)
+
+      explains : (answer : Result ℕ UpdateError) → Turn r s turned (Ended answer) → IsExplained r s (shown_of world_after.history client.answered) call.id kept.edit answer world_after.history
+      explains (Ok edition) it = update_is_acknowledged r s kept.edit turned edition it kept.knows kept.is_for
+      explains (Err err) it =
+          cause_of_less r s (shown_of world_after.history client.answered) (edition_of scene.world.history) call.id kept.edit err world_after.history within_now
+          (error_has_cause r s kept.edit turned err it shelf.told kept.knows shelf.reads kept.is_for (λ died. never (sym (living r s turned keeps.alive) ∙ died)))
+
+      leaves_none : (answer : Result ℕ UpdateError) → Turn r s turned (Ended answer) → may_stand answer ≡ false → list_any (is_own is_update call.id) world_after.history ≡ false
+      leaves_none (Ok edition) it out = never (sym out)
+      leaves_none (Err err) it out = error_leaves_none r s turned keeps.alive keeps.unplanned err it kept.knows.entries out
+
+      new_answer : (answer : Result ℕ UpdateError) → gave ≡ Ended answer → IsTrueAnswer r s client world_after.history client.answered (record { call = call.id; answer = answer })
+      new_answer answer is =
+          let ended : Turn r s turned (Ended answer) = subst (λ g. Turn r s turned g) is turn in
+          record {
+            call = kept.id ∙ ap (λ number. call_of client number) kept.counted;
+            edit = kept.edit;
+            asked = kept.asked;
+            explained = explains answer ended;
+            late = IfSome_then (printed_by answer) (prints_now r s turned keeps.alive keeps.unplanned answer ended) (λ edition now. rw now within_now);
+            memory = λ wants. memory (is ∙ ap (λ a. Ended a) wants);
+            none = leaves_none answer ended;
+          }
+
+      ready_after : client.initialised ≡ true → is_ready client.node world_after.history ≡ true
+      ready_after is = rw adds.added (ready_stays client.node scene.world.history more adds.alive (kept.ready is))
+
+      moved_ready : Turn r s turned Moved → (client.initialised || is_finishing call.at) ≡ true → is_ready client.node world_after.history ≡ true
+      moved_ready it is =
+          elim (or_either client.initialised (is_finishing call.at) is) [
+            | inl before ↦ ready_after before
+            | inr finishing ↦ (let node : call.id.node ≡ client.node = ap (λ (id : CallId). id.node) kept.id in
+                let ready : is_ready call.id.node world_after.history ≡ true = finishing_readies r s turned keeps.alive keeps.unplanned it finishing in
+                rw node at ready)
+          ]
+
+      call_moved : Turn r s turned Moved → KeepsCall r s (behind_turn client call Moved call_after) world_after call_after
+      call_moved it =
+          let same : call_after.id ≡ call.id = moved_is_same r s turned keeps.alive keeps.unplanned it in
+          let goes_on : is_gone call_after.at ≡ false = moves_on r s turned keeps.alive keeps.unplanned it in
+          record {
+            counted = kept.counted;
+            id = same ∙ kept.id;
+            edit = kept.edit;
+            asked = kept.asked;
+            is_for = subst (λ id. IsFor id kept.edit call_after.at world_after.history) (sym same) (turn_is_for r s kept.edit turned Moved it kept.knows kept.is_for);
+            knows = turn_keeps_knowledge r s turned Moved it kept.knows shelf.reads goes_on;
+            goes_on = goes_on;
+            ready = moved_ready it;
+          }
+
+      call_waits : Turn r s turned Blocked → KeepsCall r s (behind_turn client call Blocked call_after) world_after call_after
+      call_waits it =
+          let waits = waits_same r s turned keeps.alive keeps.unplanned it in
+          let same : call_after.id ≡ call.id = ap (λ (c : Call V T). c.id) waits.call in
+          let goes_on : is_gone call_after.at ≡ false = ap (λ (c : Call V T). is_gone c.at) waits.call ∙ kept.goes_on in
+          let not_finishing : is_finishing call.at ≡ false = first_not_finishing call.at (turn_waits r s turned it).2 in
+          record {
+            counted = kept.counted;
+            id = same ∙ kept.id;
+            edit = kept.edit;
+            asked = kept.asked;
+            is_for = subst (λ id. IsFor id kept.edit call_after.at world_after.history) (sym same) (turn_is_for r s kept.edit turned Blocked it kept.knows kept.is_for);
+            knows = turn_keeps_knowledge r s turned Blocked it kept.knows shelf.reads goes_on;
+            goes_on = goes_on;
+            ready = λ is. elim (or_either client.initialised (is_finishing call.at) is) [ inl before ↦ ready_after before | inr finishing ↦ never (sym not_finishing ∙ finishing) ];
+          }
+
+      client_by : (g : Progress (Result ℕ UpdateError)) → gave ≡ g → KeepsClient r s place world_after (behind_turn client call g call_after)
+      client_by (Ended answer) is =
+          let a : Answered = record { call = call.id; answer = answer } in
+          record {
+            id = mine.id;
+            running = kept.counted ∙ sym (length-append client.answered (a ∷ []));
+            answers =
+                answers_same r s client (behind_turn client call (Ended answer) call_after) world_after.history (client.answered ++ a ∷ []) refl refl (λ n edit asked. asked)
+                (each-push (IsTrueAnswer r s client world_after.history) client.answered a still_true (new_answer answer is));
+          }
+      client_by Moved is =
+          record {
+            id = mine.id;
+            running = call_moved (subst (λ g. Turn r s turned g) is turn);
+            answers = answers_same r s client (behind_turn client call Moved call_after) world_after.history client.answered refl refl (λ n edit asked. asked) still_true;
+          }
+      client_by Blocked is =
+          record {
+            id = mine.id;
+            running = call_waits (subst (λ g. Turn r s turned g) is turn);
+            answers = answers_same r s client (behind_turn client call Blocked call_after) world_after.history client.answered refl refl (λ n edit asked. asked) still_true;
+          }
+
+      -- entries of the call are of the client
+      own_entry : (kind : KindSeen V T) → IsOfCall (slice_set scene.clients place now) (record { who = call.id; kind = kind })
+      own_entry kind =
+          let same = behind_same client call gave call_after in
+          record {
+            client = now;
+            found = subst (λ p. slice_get (slice_set scene.clients place now) p ≡ Some now) (sym at_place) (set_found scene.clients place now client found);
+            node = ap (λ (id : CallId). id.node) kept.id ∙ sym same.0;
+            first = omega (arith, number_is);
+            begun = let number : call.id.number ≡ client.begun = ap (λ (id : CallId). id.number) kept.id in subst (λ n. call.id.number ≤ n) (sym same.1) (omega (arith, number));
+          }
+
+      all_entries : All (IsOfCall (slice_set scene.clients place now)) (scene.world.history ++ more)
+      all_entries =
+          let same = behind_same client call gave call_after in
+          All-append (IsOfCall (slice_set scene.clients place now)) scene.world.history more
+          (entries_on scene.clients place client now found same.0 (subst (λ n. client.begun ≤ n) (sym same.1) omega arith) scene.world.history keeps.entries)
+          (All-map (IsOfCall (slice_set scene.clients place now)) (λ kind. record { who = call.id; kind = kind }) adds.kinds (λ k d within. own_entry (slice_index_or adds.kinds k d)))
+
+      -- the lock: the call owns it behind the turn, or another did before
+      own_owner : (g : Progress (Result ℕ UpdateError)) → gave ≡ g → world_after.owner ≡ Some call.id → HasOwner (slice_set scene.clients place (behind_turn client call g call_after)) call.id
+      own_owner (Ended answer) is owns = absurd (ended_owns_nothing r s turned keeps.alive keeps.unplanned answer (subst (λ g. Turn r s turned g) is turn) owns)
+      own_owner Moved is owns =
+          let moved : Turn r s turned Moved = subst (λ g. Turn r s turned g) is turn in
+          record {
+            place = place;
+            client = behind_turn client call Moved call_after;
+            call = call_after;
+            found = set_found scene.clients place (behind_turn client call Moved call_after) client found;
+            runs = refl;
+            own = sym (moved_is_same r s turned keeps.alive keeps.unplanned moved);
+            holds = moved_holds r s turned keeps.alive keeps.unplanned moved owns;
+          }
+      own_owner Blocked is owns =
+          let waits = turn_waits r s turned (subst (λ g. Turn r s turned g) is turn) in
+          let owned : scene.world.owner ≡ Some call.id = ap (λ (w : World V T). w.owner) (sym waits.4) ∙ owns in
+          let another = waits.3 in
+          absurd ((rw owned at another) refl)
+
+      other_owner : (id : CallId) → world_after.owner ≡ Some id → (id ≡ call.id → ⊥) → HasOwner (slice_set scene.clients place now) id
+      other_owner id owns unlike =
+          let owned : scene.world.owner ≡ Some id = turn_owner r s turned gave turn id owns unlike in
+          let it : HasOwner scene.clients id = subst (λ o. IfSome o (HasOwner scene.clients)) owned keeps.owner in
+          owner_apart scene.clients place client now found id it
+          (λ here.
+          let same_client : it.client ≡ client = one_of_it (slice_get scene.clients place) it.client client (rw (← here) it.found) found in
+          let same_call : it.call ≡ call = one_of_it client.running it.call call (ap (λ (c : Client V T). c.running) (sym same_client) ∙ it.runs) runs in
+          unlike (it.own ∙ ap (λ (c : Call V T). c.id) same_call))
+
+      owner_by : (o : Option CallId) → world_after.owner ≡ o → IfSome o (HasOwner (slice_set scene.clients place now))
+      owner_by None is = tt
+      owner_by (Some id) is = by_own (is_call id call.id) refl
+        where
+          by_own : (b : Bool) → is_call id call.id ≡ b → HasOwner (slice_set scene.clients place now) id
+          by_own true own = let same : id ≡ call.id = same_call id call.id own in rw same (own_owner gave refl (is ∙ ap (λ (x : CallId). Some x) same))
+          by_own false own = other_owner id is (λ same. never (sym own ∙ (rw same (itself call.id))))
+
+      pub turn_keeps_scene : SceneKeeps r s scene_after
+      turn_keeps_scene =
+          record {
+            clients =
+                λ other c is.
+                elim (found_then scene.clients place other now c is) [
+                  | inl here ↦ (rw (here.0, here.1) (client_by gave refl))
+                  | inr there ↦ client_stays other c there.0 there.1
+                ];
+            entries = rw adds.added all_entries;
+            owner = owner_by world_after.owner refl;
+            alive = alive_after;
+            unplanned = adds.deaths ∙ keeps.unplanned;
+            unfailed = unfailed ∙ keeps.unfailed;
+            smooth = rw adds.added (list_any-append stumbles scene.world.history more ∙ rw (keeps.smooth, adds.smooth (unfailed ∙ keeps.unfailed)) refl);
+          }

@@ -1,0 +1,13 @@
+pub mod AlikeStores
+pub mod ClientKeeps
+pub mod Order
+pub mod PrefsBasis
+pub mod Replays
+pub mod Run
+pub mod RunExamples
+pub mod Scene
+pub mod SceneKeeps
+pub mod ScriptRun
+pub mod ShownByAnswers
+pub mod Step
+pub mod WorkLeft
