@@ -1,1 +1,4 @@
+pub mod AloneLemmas
+pub mod InTurnLemmas
+pub mod RoundLemmas
 pub mod UpdateLemmas
