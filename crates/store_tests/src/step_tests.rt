@@ -72,11 +72,11 @@ fn tells(shelf: &Shelf<Prefs>, rows: &[(CallId, Told)]) -> bool {
     if journal.len() != rows.len() as u64 {
         return false;
     }
-    let mut at = 0;
-    for (who, kind) in rows {
-        at += 1;
-        let is = journal.entry(at).is_some_and(|entry| entry.who == *who
-            && kind_told(&entry.kind) == *kind);
+    for index in 0..rows.len() {
+        let (who, kind) = rows[index];
+        let is = journal
+            .entry(index as u64 + 1)
+            .is_some_and(|entry| entry.who == who && kind_told(&entry.kind) == kind);
         if !is {
             return false;
         }
