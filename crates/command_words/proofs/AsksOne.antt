@@ -9,7 +9,7 @@ use Rattle.prefs_text.proofs.KindNames.{one_kind}
 use Rattle.command_words.specs.Command.{Asks, Follow, IsSetRow, IsValueRow, name_of}
 use Rattle.command_words.specs.Words.{Given}
 use Rattle.command_words.specs.declared.command.Command.{Command}
-use Rattle.command_words.specs.declared.command.Command.TheVariants.{Set, Get, Remove, Show}
+use Rattle.command_words.specs.declared.command.Command.TheVariants.{Set, Get, Remove, Show, Replay}
 use Rattle.command_words.proofs.DashLemmas.{given_one}
 use Rattle.command_words.proofs.PlainWordLemmas.{plain_word_one}
 
@@ -51,8 +51,9 @@ follow_one behind (Set key value) (Set other given) names one two =
 follow_one behind (Get key) (Get other) names one two = ap Get (key_row_one key other one.0 one.2.row (sym (one_given behind one.0 two.0 one.1 two.1) ∙ two.2.row))
 follow_one behind (Remove key) (Remove other) names one two = ap Remove (key_row_one key other one.0 one.2.row (sym (one_given behind one.0 two.0 one.1 two.1) ∙ two.2.row))
 follow_one behind Show Show names one two = refl
+follow_one behind Replay Replay names one two = refl
 follow_one behind a b names one two =
-    let differ = ap (λ (name : List ℕ). get_or name 0 0 + length name) names in
+    let differ = ap (λ (name : List ℕ). get_or name 0 0 + get_or name 2 0 + length name) names in
     absurd (omega arith)
 
 pub asks_one : (words : List (List ℕ)) (a b : Command) → Asks words a → Asks words b → a ≡ b

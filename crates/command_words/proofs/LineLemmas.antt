@@ -1,11 +1,11 @@
 -- What a line asks for, by the words that are given in it, and by the words that it was made of.
-use Rattle.std.proofs.Common.{◌≡◌, ◌∙◌, ℕ, List, [], ◌∷◌, ◌++◌, Option, Some, None, IfSome, IfNone, codes, inl, inr, refl, ap, sym, subst}
+use Rattle.std.proofs.Common.{◌≡◌, ◌∙◌, ℕ, List, [], ◌∷◌, ◌++◌, Option, Some, None, IfSome, IfNone, codes, get_or, inl, inr, refl, ap, sym, subst, arith}
 use Rattle.std.proofs.lemmas.List.Elements.{All-nil}
 use Rattle.command_words.specs.Command.{Asks, AsksNothing, Follow, IsRow, name_of}
-use Rattle.command_words.specs.Line.{LineAsks, MayFollow}
+use Rattle.command_words.specs.Line.{LineAsks, MayFollow, StandsAlone}
 use Rattle.command_words.specs.Words.{Given, IsNoOption, IsParted}
 use Rattle.command_words.specs.declared.command.Command.{Command}
-use Rattle.command_words.specs.declared.command.Command.TheVariants.{Set, Get, Remove, Show}
+use Rattle.command_words.specs.declared.command.Command.TheVariants.{Set, Get, Remove, Show, Replay}
 use Rattle.command_words.proofs.DashLemmas.{given_one, parted_nothing}
 
 pub line_asks_some : (name : List ℕ) (given line : List (List ℕ)) → line ≡ name ∷ codes "--" ∷ given → (found : Option Command)
@@ -34,17 +34,23 @@ asks_of_line name behind before after command may parted asks =
     given : Given behind (before ++ after)
     given = record { before = before; after = after; parted = parted; whole = refl }
 
-    shows : MayFollow name behind → name ≡ codes "show" → behind ≡ []
-    shows (inl (inl e)) show = let bad : codes "set" ≡ codes "show" = sym e ∙ show in cc
-    shows (inl (inr (inl e))) show = let bad : codes "get" ≡ codes "show" = sym e ∙ show in cc
-    shows (inl (inr (inr e))) show = let bad : codes "remove" ≡ codes "show" = sym e ∙ show in cc
-    shows (inr (e, none)) show = none
+    alone : MayFollow name behind → StandsAlone name → behind ≡ []
+    alone (inr (e, none)) is = none
+    alone (inl (inl e)) (inl show) = let bad : codes "set" ≡ codes "show" = sym e ∙ show in cc
+    alone (inl (inr (inl e))) (inl show) = let bad : codes "get" ≡ codes "show" = sym e ∙ show in cc
+    alone (inl (inr (inr e))) (inl show) = let bad : codes "remove" ≡ codes "show" = sym e ∙ show in cc
+    alone (inl (inl e)) (inr replay) = let bad : codes "set" ≡ codes "replay" = sym e ∙ replay in cc
+    alone (inl (inr (inl e))) (inr replay) = let bad : codes "get" ≡ codes "replay" = sym e ∙ replay in cc
+    alone (inl (inr (inr e))) (inr replay) =
+        let differ = ap (λ name. get_or name 2 0) (sym e ∙ replay) in
+        absurd (omega arith)
 
     go : (command : Command) → name ≡ name_of command → IsRow (before ++ after) command → Follow behind command
     go (Set key value) is row = (before ++ after, given, row)
     go (Get key) is row = (before ++ after, given, row)
     go (Remove key) is row = (before ++ after, given, row)
-    go Show is row = shows may is
+    go Show is row = alone may (inl is)
+    go Replay is row = alone may (inr is)
 
 -- and the words ask what their line asks
 pub line_of_asks : (name : List ℕ) (behind before after : List (List ℕ)) (command : Command) → IsParted behind before after
@@ -66,6 +72,7 @@ line_of_asks name behind before after command parted asks =
     go (Get key) f = subst (λ (l : List (List ℕ)). IsRow l (Get key)) (same f.0 f.1) f.2
     go (Remove key) f = subst (λ (l : List (List ℕ)). IsRow l (Remove key)) (same f.0 f.1) f.2
     go Show f = parted_nothing before after (subst (λ (l : List (List ℕ)). IsParted l before after) f parted)
+    go Replay f = parted_nothing before after (subst (λ (l : List (List ℕ)). IsParted l before after) f parted)
 
 -- the words behind a command's name can be parted
 pub follow_parted : (command : Command) (behind : List (List ℕ)) → Follow behind command → (before : List (List ℕ)) × (after : List (List ℕ)) × IsParted behind before after
@@ -73,13 +80,15 @@ follow_parted (Set key value) behind f = (f.1.before, f.1.after, f.1.parted)
 follow_parted (Get key) behind f = (f.1.before, f.1.after, f.1.parted)
 follow_parted (Remove key) behind f = (f.1.before, f.1.after, f.1.parted)
 follow_parted Show behind f = ([], [], record { no_options = All-nil IsNoOption; parts = inr (f, refl) })
+follow_parted Replay behind f = ([], [], record { no_options = All-nil IsNoOption; parts = inr (f, refl) })
 
 -- and may stand there
 pub follow_may : (command : Command) (behind : List (List ℕ)) → Follow behind command → MayFollow (name_of command) behind
 follow_may (Set key value) behind f = inl (inl refl)
 follow_may (Get key) behind f = inl (inr (inl refl))
 follow_may (Remove key) behind f = inl (inr (inr refl))
-follow_may Show behind f = inr (refl, f)
+follow_may Show behind f = inr (inl refl, f)
+follow_may Replay behind f = inr (inr refl, f)
 
 -- ---- what the words ask, by their first word and those behind it
 

@@ -18,7 +18,7 @@ use Rattle.clap.specs.Simple.{App, Shape, new_app, new_shape, with_subcommand, o
 use Rattle.clap.specs.Walk.{Text, Walk, idle, positional, walked, walk, walk_from, nothing_held, rows_after, Names}
 use Rattle.clap.specs.Takes.{takes, level_passes, walk_passes, turn_passes, entered_passes}
 use Rattle.clap.proofs.OnLiterals.{clap_on_literals}
-use Rattle.command_words.specs.Line.{IsLine, MayFollow, TakesWords, texts_at}
+use Rattle.command_words.specs.Line.{IsLine, MayFollow, StandsAlone, TakesWords, texts_at}
 use Rattle.command_words.specs.Matches.{rows_of_words, with_words, words_rule}
 
 -- the program without its commands
@@ -27,8 +27,8 @@ prefs_alone = on_top (λ s. record s { no_binary_name = true; disable_help_flag 
 
 -- and with them
 abbrev pub prefs : App
-prefs = with_subcommand (with_subcommand (with_subcommand (with_subcommand prefs_alone (with_words (codes "set"))) (with_words (codes "get")))
-    (with_words (codes "remove"))) (new_shape (codes "show"))
+prefs = with_subcommand (with_subcommand (with_subcommand (with_subcommand (with_subcommand prefs_alone (with_words (codes "set"))) (with_words (codes "get")))
+    (with_words (codes "remove"))) (new_shape (codes "show"))) (new_shape (codes "replay"))
 
 -- the program is this one, by what its builders say
 pub alone_is : (new unnamed no_flag alone : Command) → app_of new ≡ new_app (codes "prefs")
@@ -169,13 +169,15 @@ takes_words name given takes-words within =
 
 -- ---- lines
 
-reads_show : subcommand_of prefs (codes "show" ∷ dashes ∷ []) ≡ Some (codes "show", [])
+reads_alone : (name : Text) → StandsAlone name → subcommand_of prefs (name ∷ dashes ∷ []) ≡ Some (name, [])
 unfolding clap_on_literals
-reads_show = refl
+reads_alone name (inl e) = rw e refl
+reads_alone name (inr e) = rw e refl
 
-takes_show : takes prefs (codes "show" ∷ dashes ∷ []) ≡ true
+takes_alone : (name : Text) → StandsAlone name → takes prefs (name ∷ dashes ∷ []) ≡ true
 unfolding clap_on_literals
-takes_show = refl
+takes_alone name (inl e) = rw e refl
+takes_alone name (inr e) = rw e refl
 
 -- each line is read as its name and the words that are given
 pub reads_line : (line : List Text) → IsLine line → (name : Text) (given : List Text) → line ≡ name ∷ dashes ∷ given
@@ -184,7 +186,7 @@ reads_line line is name given words = go is.fits
   where
     read : (name : Text) (given : List Text) → MayFollow name given → subcommand_of prefs (name ∷ dashes ∷ given) ≡ Some (name, rows_of_words given)
     read name given (inl takes-words) = reads_words name given takes-words
-    read name given (inr show) = rw (show.0, show.1) reads_show
+    read name given (inr alone) = rw alone.1 (reads_alone name alone.0)
 
     go : MayFollow is.name is.given → subcommand_of prefs line ≡ Some (name, rows_of_words given)
     go fits =
@@ -199,7 +201,7 @@ takes_line line is within = rw is.words (taken is.name is.given is.fits (omega (
   where
     taken : (name : Text) (given : List Text) → MayFollow name given → length given ≤ usize_max → takes prefs (name ∷ dashes ∷ given) ≡ true
     taken name given (inl takes-words) within = takes_words name given takes-words within
-    taken name given (inr show) within = rw (show.0, show.1) takes_show
+    taken name given (inr alone) within = rw alone.1 (takes_alone name alone.0)
 
 pub prefs_simple : is_simple prefs ≡ true
 unfolding clap_on_literals

@@ -10,7 +10,7 @@ use Rattle.prefs_text.specs.declared.value_kind.ValueKind.{ValueKind}
 use Rattle.prefs_text.specs.declared.value_kind.ValueKind.TheVariants.{Text, Texts}
 use Rattle.command_words.specs.Words.{Given}
 use Rattle.command_words.specs.declared.command.Command.{Command}
-use Rattle.command_words.specs.declared.command.Command.TheVariants.{Set, Get, Remove, Show}
+use Rattle.command_words.specs.declared.command.Command.TheVariants.{Set, Get, Remove, Show, Replay}
 
 abbrev pub texts : List (String Global) → List (List ℕ)
 texts words = map string_bytes words
@@ -44,16 +44,19 @@ IsRow words (Set key given) = IsSetRow words key given
 IsRow words (Get key) = IsKeyRow words key
 IsRow words (Remove key) = IsKeyRow words key
 IsRow words Show = words ≡ []
+IsRow words Replay = words ≡ []
 
 abbrev pub name_of : Command → List ℕ
 name_of (Set key given) = codes "set"
 name_of (Get key) = codes "get"
 name_of (Remove key) = codes "remove"
 name_of Show = codes "show"
+name_of Replay = codes "replay"
 
--- the words behind the name fit: nothing follows `show`, and for the others the first `--` is taken away
+-- the words behind the name fit: nothing follows `show` and `replay`, and for the others the first `--` is taken away
 abbrev pub Follow : List (List ℕ) → Command → Type 0
 Follow words Show = words ≡ []
+Follow words Replay = words ≡ []
 Follow words command = (given : List (List ℕ)) × Given words given × IsRow given command
 
 -- the words ask for this

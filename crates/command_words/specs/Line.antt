@@ -11,9 +11,13 @@ texts_at words = map (λ word. word.now) words
 abbrev pub TakesWords : List ℕ → Type 0
 TakesWords name = (name ≡ codes "set") ⊎ (name ≡ codes "get") ⊎ (name ≡ codes "remove")
 
--- the words may stand behind the name: any behind these, and none behind `show`
+-- the commands to which none are
+abbrev pub StandsAlone : List ℕ → Type 0
+StandsAlone name = (name ≡ codes "show") ⊎ (name ≡ codes "replay")
+
+-- the words may stand behind the name
 abbrev pub MayFollow : List ℕ → List (List ℕ) → Type 0
-MayFollow name words = TakesWords name ⊎ ((name ≡ codes "show") × (words ≡ []))
+MayFollow name words = TakesWords name ⊎ (StandsAlone name × (words ≡ []))
 
 -- the name is one of the table, and so many words may follow it
 pub record IsLine (line : List (List ℕ)) : Type 0 where

@@ -7,4 +7,5 @@ pub enum Command {
     Get { key: PrefKey },
     Remove { key: PrefKey },
     Show,
+    Replay,
 }

@@ -37,7 +37,7 @@ fn may_follow(name: &str, behind: &[String]) -> bool
 {
     match name {
         "set" | "get" | "remove" => true,
-        "show" => behind.is_empty(),
+        "show" | "replay" => behind.is_empty(),
         _ => false,
     }
 }

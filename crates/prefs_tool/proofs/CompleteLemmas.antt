@@ -6,7 +6,7 @@ use Rattle.folder_disk.specs.Tally.{Tally}
 use Rattle.prefs_model.specs.declared.pref_pair.PrefPair.{PrefPair}
 use Rattle.prefs_edit.specs.declared.edit_step.EditStep.{EditStep}
 use Rattle.command_words.specs.declared.command.Command.{Command}
-use Rattle.command_words.specs.declared.command.Command.TheVariants.{Set, Get, Remove, Show}
+use Rattle.command_words.specs.declared.command.Command.TheVariants.{Set, Get, Remove, Show, Replay}
 use Rattle.prefs_tool.specs.Reading.{ReadsAs, IsCorrupt, IsTooLong, StopsReading}
 use Rattle.prefs_tool.specs.Changing.{ChangesMain}
 use Rattle.prefs_tool.specs.Complete.{Fits, FitsMain, IsDone}
@@ -68,6 +68,7 @@ answer_done (Set key value) old new before now pairs text answer answers reads f
 answer_done (Get key) old new before now pairs text answer answers reads fits sound = get_done key old.main before now pairs text answer answers.0 reads sound
 answer_done (Remove key) old new before now pairs text answer answers reads fits sound = change_done (Remove key) _ old new before now pairs answer answers.0 reads fits sound
 answer_done Show old new before now pairs text answer answers reads fits sound = show_done old.main before now pairs text answer answers.0 reads sound
+answer_done Replay old new before now pairs text answer answers reads fits sound = absurd answers
 
 report_done : (sink_told : Bool) (command : Command) (answer : Result (Unit {0}) ToolError) (text : List ℕ) (status : Status) (held gained : List ℕ) (faults faults_now : ℕ)
     → Reports sink_told answer text status held faults gained faults_now → (Rose faults faults_now → ⊥) → IsDone command (status_after answer) → IsDone command status
@@ -79,4 +80,4 @@ pub is_done : (sink_told : Bool) (command : Command) (old new : Contents) (befor
     → ReadsAs old.main pairs → FitsMain command old.main → (Rose before.count now.count → ⊥) → (Rose faults faults_now → ⊥) → IsDone command status
 is_done sink_told command old new before now held gained faults faults_now status pairs outcome reads fits sound sink_sound =
     report_done sink_told command outcome.answer outcome.text status held gained faults faults_now outcome.reports sink_sound
-    (answer_done command old new before now pairs outcome.text outcome.answer outcome.answers reads fits sound)
+    (answer_done command old new before now pairs outcome.text outcome.answer outcome.answered reads fits sound)

@@ -3,6 +3,8 @@ pub mod ChangeLemmas
 pub mod CompleteLemmas
 pub mod EndLemmas
 pub mod ReadLemmas
+pub mod ReplayCauses
+pub mod ReplayLemmas
 pub mod ShowLemmas
 pub mod ToolLemmas
 pub mod WriteLemmas

@@ -19,15 +19,16 @@ pub record Gains (told : Bool) (text held : List ℕ) (before : ℕ) (gained : L
   pub text_is : IsTrue told → gained ≡ held ++ text
 
 -- The line of an error is not written yet. Where a write failed, all else had gone well.
+abbrev pub EndsWith : {T : Type 0} → (Result (Unit {0}) ToolError → List ℕ → Type 0) → Bool → Result T ToolError → List ℕ → ℕ → List ℕ → ℕ → Type 0
+EndsWith answers told (Ok done) held faults gained faults_now = (text : List ℕ) × answers (Ok tt) text × Gains told text held faults gained faults_now
+EndsWith answers told (Err NoMemory) held faults gained faults_now = (text : List ℕ) × answers (Err NoMemory) text × Gains told text held faults gained faults_now
+EndsWith answers told (Err WriteFault) held faults gained faults_now =
+    (text : List ℕ) × answers (Ok tt) text × Rose faults faults_now × (IsTrue told → GainsFront text held gained)
+EndsWith answers told (Err e) held faults gained faults_now = answers (Err e) (line_of e) × Gains told [] held faults gained faults_now
+
 abbrev pub Ends : {T : Type 0} → Bool → Bool → Command → Contents → Tally → List ℕ → ℕ → Result T ToolError → Contents → Tally → List ℕ → ℕ → Type 0
-Ends folder_told sink_told command old before held faults (Ok done) new now gained faults_now =
-    (text : List ℕ) × Answers folder_told command old before (Ok tt) text new now × Gains sink_told text held faults gained faults_now
-Ends folder_told sink_told command old before held faults (Err NoMemory) new now gained faults_now =
-    (text : List ℕ) × Answers folder_told command old before (Err NoMemory) text new now × Gains sink_told text held faults gained faults_now
-Ends folder_told sink_told command old before held faults (Err WriteFault) new now gained faults_now =
-    (text : List ℕ) × Answers folder_told command old before (Ok tt) text new now × Rose faults faults_now × (IsTrue sink_told → GainsFront text held gained)
-Ends folder_told sink_told command old before held faults (Err e) new now gained faults_now =
-    Answers folder_told command old before (Err e) (line_of e) new now × Gains sink_told [] held faults gained faults_now
+Ends folder_told sink_told command old before held faults result new now gained faults_now =
+    EndsWith (λ answer text. Answers folder_told command old before answer text new now) sink_told result held faults gained faults_now
 
 -- the line that `get` prints, or why there is none
 abbrev pub FindsLine : Bool → List ℕ → Option (List ℕ) → Tally → Tally → Result (String Global) ToolError → Type 0

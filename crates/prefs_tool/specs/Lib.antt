@@ -4,5 +4,6 @@ pub mod Ending
 pub mod Outcome
 pub mod Reading
 pub mod Replacing
+pub mod Replaying
 pub mod Status
 pub mod Writing

@@ -15,7 +15,7 @@ use Rattle.prefs_tool.specs.Changing.{Untouched, ChangesMain}
 use Rattle.prefs_tool.specs.Status.{line, line_of, text_after, status_after}
 use Rattle.prefs_tool.specs.Writing.{GainsFront}
 use Rattle.command_words.specs.declared.command.Command.{Command}
-use Rattle.command_words.specs.declared.command.Command.TheVariants.{Set, Get, Remove, Show}
+use Rattle.command_words.specs.declared.command.Command.TheVariants.{Set, Get, Remove, Show, Replay}
 use Rattle.prefs_tool.specs.declared.status.Status.{Status}
 use Rattle.prefs_tool.specs.declared.status.Status.TheVariants.{WriteFault, NoMemory}
 use Rattle.prefs_tool.specs.declared.tool_error.ToolError.{ToolError}
@@ -51,6 +51,11 @@ PrintsFront command main text = (text ≡ []) ⊎ ((whole : List ℕ) × (rest :
 
 -- ---- what is answered
 
+-- every command but `replay`
+abbrev pub ReadsNoScript : Command → Type 0
+ReadsNoScript Replay = ⊥
+ReadsNoScript _ = Unit {0}
+
 -- a command that only looks at main: what it prints, or why it does not
 abbrev pub Looks : Bool → Command → Option (List ℕ) → Tally → Tally → Result (Unit {0}) ToolError → List ℕ → Type 0
 Looks told command main before now (Ok done) text = IsTrue told → Prints command main text
@@ -59,10 +64,11 @@ Looks told (Get key) main before now (Err error.NoKey) text = (text ≡ line_of 
 Looks told command main before now (Err e) text = (text ≡ line_of e) × StopsReading told main before now e
 
 -- The answer of a command, with the text that is to be written of it. Where the folder is not told, of its contents
--- nothing is said.
+-- nothing is said. What `replay` answers is another matter.
 abbrev pub Answers : Bool → Command → Contents → Tally → Result (Unit {0}) ToolError → List ℕ → Contents → Tally → Type 0
 Answers told (Set key value) old before answer text new now = ChangesMain told (step.Set key value) old before answer new now × (text ≡ text_after answer)
 Answers told (Remove key) old before answer text new now = ChangesMain told (step.Remove key) old before answer new now × (text ≡ text_after answer)
+Answers told Replay old before answer text new now = ⊥
 Answers told command old before answer text new now = Looks told command old.main before now answer text × (IsTrue told → Untouched old new)
 
 -- The sink gained the text, and the status is that of the answer; or a write failed, and it gained a front.
@@ -71,12 +77,17 @@ Reports told answer text status held before gained now =
     ((status ≡ status_after answer) × (IsTrue told → gained ≡ held ++ text))
     ⊎ ((status ≡ WriteFault) × Rose before now × (IsTrue told → GainsFront text held gained))
 
-pub record Outcome (folder_told sink_told : Bool) (command : Command) (old : Contents) (before : Tally) (held : List ℕ) (faults : ℕ)
-    (status : Status) (new : Contents) (now : Tally) (gained : List ℕ) (faults_now : ℕ) : Type 0 where
+-- there is an answer with its text, and the status and the sink tell it
+pub record Tells (answers : Result (Unit {0}) ToolError → List ℕ → Type 0) (sink_told : Bool) (status : Status) (held : List ℕ) (faults : ℕ)
+    (gained : List ℕ) (faults_now : ℕ) : Type 0 where
   pub answer : Result (Unit {0}) ToolError
   pub text : List ℕ
-  pub answers : Answers folder_told command old before answer text new now
+  pub answered : answers answer text
   pub reports : Reports sink_told answer text status held faults gained faults_now
+
+abbrev pub Outcome : Bool → Bool → Command → Contents → Tally → List ℕ → ℕ → Status → Contents → Tally → List ℕ → ℕ → Type 0
+Outcome folder_told sink_told command old before held faults status new now gained faults_now =
+    Tells (λ answer text. Answers folder_told command old before answer text new now) sink_told status held faults gained faults_now
 
 -- words that are no command: the sink is told so, unless memory was wanting before
 abbrev pub RefusesWords : Bool → Status → List ℕ → ℕ → List ℕ → ℕ → Type 0

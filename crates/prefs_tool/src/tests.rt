@@ -1,7 +1,10 @@
-//! The commands over a folder and a sink in memory: what main is after them, what is printed, and the status.
+//! The commands over devices in memory: what main is after them, what is printed, and the status.
+mod endless;
 mod faults;
 mod large;
 mod rows;
+mod runs;
+mod scripts;
 
 use crate::run_tool;
 use byte_io::{MemSink, MemSource};

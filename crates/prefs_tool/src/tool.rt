@@ -1,13 +1,16 @@
-ghost use Rattle.std.specs.Prelude.{◌≡◌, Err};
+ghost use Rattle.std.specs.Prelude.{◌≡◌, ◌⊎◌, Err};
 ghost use Rattle.command_words.specs.Command.{Asks, AsksNothing, texts};
 ghost use Rattle.command_words.specs.declared.command.Command.{Command};
+ghost use Rattle.command_words.specs.declared.command.Command.TheVariants.{Replay};
 ghost use Rattle.prefs_tool.specs.Ending.{Ends};
-ghost use Rattle.prefs_tool.specs.Outcome.{Outcome, RefusesWords, Reports};
+ghost use Rattle.prefs_tool.specs.Outcome.{Outcome, ReadsNoScript, RefusesWords, Reports};
+ghost use Rattle.prefs_tool.specs.Replaying.{EndsReplay, Replayed};
 ghost use Rattle.prefs_tool.specs.Status.{line_of};
 
 use crate::Status;
 use crate::change::change;
 use crate::get::get;
+use crate::replay::print_run;
 use crate::show::show;
 use crate::tool_error::ToolError;
 use crate::write::write_line;
@@ -17,8 +20,9 @@ use folder_disk::Folder;
 use prefs_edit::EditStep;
 use std::alloc::Global;
 
-/// Does what the words ask for: `set`, `remove`, `get` or `show` on the settings in the folder. What it prints goes
-/// to the sink, and so does the line that tells why it stopped. It reads nothing of the source, and always returns.
+/// Does what the words ask for: `set`, `remove`, `get` or `show` on the settings in the folder, or `replay` of the
+/// script that the source gives. What it prints goes to the sink, and so does the line that tells why it stopped. It
+/// always returns.
 pub fn run_tool<S: Source, K: Sink, F: Folder>(
     alloc: Global,
     words: &[String],
@@ -26,25 +30,29 @@ pub fn run_tool<S: Source, K: Sink, F: Folder>(
     sink: &mut K,
     folder: &mut F,
 ) -> Status
-    // Words that are no command are refused, and touch nothing.
+    // Words that are no command are refused.
     ensures words { result ≡ Status.Words → AsksNothing (texts words.now) }
     ensures refused { AsksNothing (texts words.now)
         → RefusesWords K.told result (K.held sink.old) (K.count sink.old) (K.held sink.new) (K.count sink.new) }
-    ensures folder { AsksNothing (texts words.now) → folder.new ≡ folder.old }
     // What the words ask for is done, or the status says why not, what is told, and what the folder holds.
-    ensures outcome { (command : Command) → Asks (texts words.now) command
+    ensures outcome { (command : Command) → Asks (texts words.now) command → ReadsNoScript command
         → Outcome F.told K.told command (F.contents folder.old) (F.tally folder.old) (K.held sink.old) (K.count sink.old)
         result (F.contents folder.new) (F.tally folder.new) (K.held sink.new) (K.count sink.new) }
-    ensures source { source.new ≡ source.old }
+    // The run of the script is told, or the status says why not, and what was read.
+    ensures replay { Asks (texts words.now) Replay
+        → Replayed S.told K.told (S.left source.old) (S.count source.old) (K.held sink.old) (K.count sink.old)
+        result (S.left source.new) (S.count source.new) (K.held sink.new) (K.count sink.new) }
+    // Only `replay` reads of the source, and neither it nor words that are no command touch the folder.
+    ensures source { ¬ Asks (texts words.now) Replay → source.new ≡ source.old }
+    ensures folder { AsksNothing (texts words.now) ⊎ Asks (texts words.now) Replay → folder.new ≡ folder.old }
 {
-    let _ = source;
     let Ok(asked) = asked(alloc, words) else {
         return Status::NoMemory;
     };
     let Some(command) = asked else {
         return tell(sink, ToolError::Words);
     };
-    let Err(error) = run_command(alloc, sink, folder, command) else {
+    let Err(error) = run_command(alloc, source, sink, folder, command) else {
         return Status::Done;
     };
     if error.is_write_fault() {
@@ -53,19 +61,24 @@ pub fn run_tool<S: Source, K: Sink, F: Folder>(
     tell(sink, error)
 }
 
-fn run_command<K: Sink, F: Folder>(
+fn run_command<S: Source, K: Sink, F: Folder>(
     alloc: Global,
+    source: &mut S,
     sink: &mut K,
     folder: &mut F,
     command: Command,
 ) -> Result<(), ToolError>
-    ensures { Ends F.told K.told command (F.contents folder.old) (F.tally folder.old) (K.held sink.old) (K.count sink.old) result (F.contents folder.new) (F.tally folder.new) (K.held sink.new) (K.count sink.new) }
+    ensures ends { ReadsNoScript command → Ends F.told K.told command (F.contents folder.old) (F.tally folder.old) (K.held sink.old) (K.count sink.old) result (F.contents folder.new) (F.tally folder.new) (K.held sink.new) (K.count sink.new) }
+    ensures replay { command ≡ Replay → EndsReplay S.told K.told (S.left source.old) (S.count source.old) (K.held sink.old) (K.count sink.old) result (S.left source.new) (S.count source.new) (K.held sink.new) (K.count sink.new) }
+    ensures source { ReadsNoScript command → source.new ≡ source.old }
+    ensures folder { command ≡ Replay → folder.new ≡ folder.old }
 {
     match command {
         Command::Set { key, value } => change(alloc, folder, EditStep::Set { key, value }),
         Command::Get { key } => get(alloc, sink, folder, &key),
         Command::Remove { key } => change(alloc, folder, EditStep::Remove { key }),
         Command::Show => show(alloc, sink, folder),
+        Command::Replay => print_run(alloc, source, sink),
     }
 }
 

@@ -4,6 +4,7 @@ ghost use Rattle.prefs_tool.specs.Status.{status_of};
 
 use crate::Status;
 use scratch_rename::{Filled, Fresh, Renamed, Synced};
+use script_lang::ScriptFault;
 use std::alloc::{AllocError, AllocFailed};
 use store_traits::Failed;
 
@@ -11,6 +12,10 @@ use store_traits::Failed;
 #[derive(Clone, Copy, Debug, PartialEq, Eq)]
 pub(crate) enum ToolError {
     Words,
+    /// The first faulty line, and the least of its faults.
+    Script { line: u64, fault: ScriptFault },
+    /// There are more bytes than a script may have.
+    ScriptTooLong,
     Storage,
     Corrupt,
     /// Main has `len` bytes.
@@ -19,6 +24,7 @@ pub(crate) enum ToolError {
     EditTooLong,
     /// The new text would have `len` bytes.
     ValueTooLong { len: u64 },
+    ReadFault,
     WriteFault,
     NoMemory,
     NoKey,
@@ -30,9 +36,11 @@ impl ToolError {
     {
         match self {
             ToolError::Words => Status::Words,
+            ToolError::Script { .. } | ToolError::ScriptTooLong => Status::Script,
             ToolError::Storage => Status::Storage,
             ToolError::Corrupt | ToolError::TooLong { .. } => Status::Corrupt,
             ToolError::EditTooLong | ToolError::ValueTooLong { .. } => Status::Refused,
+            ToolError::ReadFault => Status::ReadFault,
             ToolError::WriteFault => Status::WriteFault,
             ToolError::NoMemory => Status::NoMemory,
             ToolError::NoKey => Status::NoKey,

@@ -1,10 +1,11 @@
-ghost use Rattle.std.specs.Prelude.{◌≡◌, ◌++◌, ◌∷◌, [], decimal};
-ghost use Rattle.prefs_tool.specs.Status.{line, line_of};
+ghost use Rattle.std.specs.Prelude.{◌≡◌, ◌++◌, codes, decimal};
+ghost use Rattle.prefs_tool.specs.Status.{fault_name, line, line_of};
 ghost use Rattle.prefs_tool.specs.Writing.{WritesPiece};
 
 use crate::tool_error::ToolError;
 use byte_io::{Sink, write_all};
 use itoa::Buffer;
+use script_lang::ScriptFault;
 
 /// Writes the whole piece.
 pub(crate) fn write<K: Sink>(sink: &mut K, piece: &[u8]) -> Result<(), ToolError>
@@ -22,21 +23,51 @@ pub(crate) fn write_line<K: Sink>(sink: &mut K, error: ToolError) -> Result<(), 
 {
     match error {
         ToolError::Words => write(sink, b"error: words\n"),
+        ToolError::Script { line, fault } => {
+            write_number(sink, b"error: line ", line, fault_end(fault))
+        }
+        ToolError::ScriptTooLong => write(sink, b"error: script too long\n"),
         ToolError::Storage => write(sink, b"error: storage\n"),
         ToolError::Corrupt => write(sink, b"error: corrupt\n"),
-        ToolError::TooLong { len } => write_number(sink, b"error: too long ", len),
+        ToolError::TooLong { len } => write_number(sink, b"error: too long ", len, b"\n"),
         ToolError::EditTooLong => write(sink, b"error: refused 4\n"),
-        ToolError::ValueTooLong { len } => write_number(sink, b"error: value too long ", len),
+        ToolError::ValueTooLong { len } => {
+            write_number(sink, b"error: value too long ", len, b"\n")
+        }
+        ToolError::ReadFault => write(sink, b"error: read\n"),
         ToolError::NoKey => write(sink, b"error: no key\n"),
         ToolError::WriteFault | ToolError::NoMemory => write(sink, b""),
     }
 }
 
-/// Writes a line that ends in a number.
-fn write_number<K: Sink>(sink: &mut K, text: &[u8], number: u64) -> Result<(), ToolError>
-    ensures { WritesPiece K.told (line (text.now ++ decimal number)) (K.held sink.old) (K.count sink.old) result (K.held sink.new) (K.count sink.new) }
+/// Writes a number between two pieces.
+fn write_number<K: Sink>(
+    sink: &mut K,
+    front: &[u8],
+    number: u64,
+    end: &[u8],
+) -> Result<(), ToolError>
+    ensures { WritesPiece K.told ((front.now ++ decimal number) ++ end.now) (K.held sink.old) (K.count sink.old) result (K.held sink.new) (K.count sink.new) }
 {
-    write(sink, text)?;
+    write(sink, front)?;
     write(sink, Buffer::new().format(number).as_bytes())?;
-    write(sink, b"\n")
+    write(sink, end)
+}
+
+/// The end of the line that tells a fault: the variant's name in lower case.
+fn fault_end(fault: ScriptFault) -> &'static [u8]
+    ensures { result.now ≡ line (codes " " ++ fault_name fault) }
+{
+    match fault {
+        ScriptFault::NotUtf8 => b" notutf8\n",
+        ScriptFault::LineTooLong => b" linetoolong\n",
+        ScriptFault::TooManyLines => b" toomanylines\n",
+        ScriptFault::UnknownWord => b" unknownword\n",
+        ScriptFault::BadValue => b" badvalue\n",
+        ScriptFault::UnknownName => b" unknownname\n",
+        ScriptFault::NameTaken => b" nametaken\n",
+        ScriptFault::TooManyNames => b" toomanynames\n",
+        ScriptFault::WrongPlace => b" wrongplace\n",
+        ScriptFault::NoMemory => b" nomemory\n",
+    }
 }

@@ -1,5 +1,7 @@
 pub mod AlikeStores
 pub mod ClientKeeps
+pub mod ClientSteps
+pub mod NewClients
 pub mod Order
 pub mod PrefsBasis
 pub mod Replays
@@ -8,6 +10,13 @@ pub mod RunExamples
 pub mod Scene
 pub mod SceneKeeps
 pub mod ScriptRun
+pub mod SessionPlayed
+pub mod ShelfOpens
 pub mod ShownByAnswers
+pub mod StageGoing
+pub mod StageScene
+pub mod StageSteps
+pub mod StageView
 pub mod Step
+pub mod Telling
 pub mod WorkLeft

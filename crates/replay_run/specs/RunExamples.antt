@@ -49,7 +49,7 @@ abbrev pub two_nodes_end : Scene ℕ ExampleEdit
 two_nodes_end =
     record {
       world = at_end empty (2 ∷ []) (added (a 1) ++ added (b 1)) 2 0;
-      clients = over (a 1) (Add 1 ∷ []) true (answered (a 1) (Ok 1) ∷ []) ∷ over (b 1) (Add 1 ∷ []) true (answered (b 1) (Ok 2) ∷ []) ∷ [];
+      clients = over (a 1) (Add 1 ∷ []) false (answered (a 1) (Ok 1) ∷ []) ∷ over (b 1) (Add 1 ∷ []) false (answered (b 1) (Ok 2) ∷ []) ∷ [];
     }
 
 -- 1 is set where it is there already
@@ -60,7 +60,7 @@ abbrev pub equal_value_end : Scene ℕ ExampleEdit
 equal_value_end =
     record {
       world = at_end holds_one (1 ∷ []) (entries (a 1) (Inited n1 ∷ Same (Set 1) ∷ Synced ∷ [])) 0 0;
-      clients = over (a 1) (Set 1 ∷ []) true (answered (a 1) (Ok 0) ∷ []) ∷ [];
+      clients = over (a 1) (Set 1 ∷ []) false (answered (a 1) (Ok 0) ∷ []) ∷ [];
     }
 
 abbrev pub most : ℕ

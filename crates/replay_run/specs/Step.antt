@@ -30,7 +30,7 @@ module _ {V T : Type 0} where
 
   -- the client behind a turn of this call: an answer joins the others
   abbrev pub behind_turn : Client V T → Call V T → Progress (Result ℕ UpdateError) → Call V T → Client V T
-  behind_turn client call (Ended answer) call_after = record client { running = None; answered = client.answered ++ record { call = call.id; answer = answer } ∷ [] }
+  behind_turn client call (Ended answer) call_after = record client { running = None; initialised = false; answered = client.answered ++ record { call = call.id; answer = answer } ∷ [] }
   behind_turn client call gave call_after = record client { running = Some call_after; initialised = client.initialised || is_finishing call.at }
 
 module _ {V T M : Type 0} (r : Rules V T) (s : Store V M) where

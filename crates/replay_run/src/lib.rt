@@ -1,10 +1,21 @@
 //! Scripts are run step by step. It stands on `node_core` for the steps of a call, and on `script_lang` for scripts and
 //! transcripts.
-//! What a run of a script is stands in its specs; its body is to come.
+//! What a run of a script is stands in its specs; `replay` runs one.
 #![tactic(auto)]
 
+mod answered;
+mod client;
 mod laws;
+mod main_file;
+mod names;
+mod prefs_parts;
+mod replaying;
 mod run_examples;
+mod stage;
+#[cfg(test)]
+mod tests;
 
 pub use laws::runs_are_good;
+pub use prefs_parts::PrefsParts;
+pub use replaying::replay;
 pub use run_examples::runs_are_as_written;

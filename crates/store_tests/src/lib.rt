@@ -5,7 +5,6 @@
 mod alone;
 mod going;
 mod in_turn;
-mod prefs_parts;
 mod single_update;
 #[cfg(test)]
 mod step_tests;
@@ -15,5 +14,4 @@ mod tests;
 pub use alone::{one_after_another, to_its_end};
 pub use going::Going;
 pub use in_turn::{begin_both, in_rounds, step_of, step_of_other, steps_of};
-pub use prefs_parts::PrefsParts;
 pub use single_update::{hold, initialise, keep, write};

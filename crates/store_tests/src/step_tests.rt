@@ -6,14 +6,13 @@ ghost use Rattle.shelf.specs.Base.{ReadsAs};
 ghost use Rattle.shelf.specs.ShelfSeen.{shelf_seen};
 ghost use Rattle.store_tests.specs.SingleUpdate.{IsFresh};
 
-use crate::{
-    PrefsParts, begin_both, in_rounds, one_after_another, step_of_other, steps_of, to_its_end,
-};
+use crate::{begin_both, in_rounds, one_after_another, step_of_other, steps_of, to_its_end};
 use folder_disk::{FolderCall, MainRead, MemFolder, Planned};
 use hist_journal::{Base, Bounds, Kind};
 use prefs_edit::{Edit, EditStep};
 use prefs_model::{PrefKey, PrefMap, PrefValue};
 use prefs_proto::PrefsCodec;
+use replay_run::PrefsParts;
 use shelf::{Parts, Setup, Shelf, ValueOf};
 use std::alloc::Global;
 use std::sync::Arc;

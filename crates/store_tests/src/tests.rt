@@ -4,12 +4,13 @@ ghost use Rattle.shelf.specs.AddsNode.{is_among};
 ghost use Rattle.shelf.specs.ShelfSeen.{shelf_seen};
 ghost use Rattle.store_tests.specs.SingleUpdate.{IsFresh};
 
-use crate::{PrefsParts, hold, initialise, keep, write};
+use crate::{hold, initialise, keep, write};
 use folder_disk::{MainRead, MemFolder};
 use hist_journal::{Base, Bounds};
 use prefs_edit::{Edit, EditStep};
 use prefs_model::{PrefKey, PrefValue};
 use prefs_proto::PrefsCodec;
+use replay_run::PrefsParts;
 use shelf::{Setup, Shelf};
 use std::alloc::Global;
 use std::sync::Arc;

@@ -28,11 +28,12 @@ fn shown(alloc: Global, command: &Command) -> Result<String, AllocError> {
         Command::Get { key } => format!(in alloc; "get <{}>", key.as_str()),
         Command::Remove { key } => format!(in alloc; "remove <{}>", key.as_str()),
         Command::Show => String::from_str(alloc, "show"),
+        Command::Replay => String::from_str(alloc, "replay"),
     }
 }
 
 /// Lines whose words stand between single spaces, and what they ask for.
-const LINES: [(&str, &str); 46] = [
+const LINES: [(&str, &str); 50] = [
     ("set volume int 5", "set <volume> int 5"),
     ("set m int -- -1", "set <m> int -1"),
     ("set m int -1", NOTHING),
@@ -86,6 +87,10 @@ const LINES: [(&str, &str); 46] = [
     ("show", "show"),
     ("show x", NOTHING),
     ("show --", NOTHING),
+    ("replay", "replay"),
+    ("replay x", NOTHING),
+    ("replay --", NOTHING),
+    ("Replay", NOTHING),
     ("import a", NOTHING),
     ("Show", NOTHING),
 ];

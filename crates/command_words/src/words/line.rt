@@ -42,6 +42,7 @@ fn matches_of<'a, 'b>(alloc: Global, line: &'a [&'b str]) -> Result<ArgMatches<'
         .subcommand(get)?
         .subcommand(remove)?
         .subcommand(clap::Command::new(alloc, "show"))?
+        .subcommand(clap::Command::new(alloc, "replay"))?
         .try_get_matches_from(line)
 }
 

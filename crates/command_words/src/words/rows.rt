@@ -20,6 +20,7 @@ pub(crate) fn row(alloc: Global, name: &str, words: &[&str]) -> Result<Option<Co
         "get" => Ok(key_row(alloc, words)?.map(|key| Command::Get { key })),
         "remove" => Ok(key_row(alloc, words)?.map(|key| Command::Remove { key })),
         "show" if words.is_empty() => Ok(Some(Command::Show)),
+        "replay" if words.is_empty() => Ok(Some(Command::Replay)),
         _ => Ok(None),
     }
 }

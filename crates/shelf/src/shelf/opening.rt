@@ -1,4 +1,4 @@
-ghost use Rattle.std.specs.Prelude.{◌≡◌, ◌<◌, ◌^◌, ◌++◌, ◌∷◌, [], None, false, IsTrue, OnOk, IfErr};
+ghost use Rattle.std.specs.Prelude.{◌≡◌, ◌<◌, ◌≤◌, ◌^◌, ◌++◌, ◌∷◌, [], None, false, IsTrue, OnOk, IfErr, IfSome};
 ghost use Rattle.hist_journal.specs.View.{base_seen};
 ghost use Rattle.folder_disk.specs.Contents.{Starts};
 ghost use Rattle.folder_disk.specs.Tally.{StartsTally};
@@ -65,6 +65,14 @@ impl<P: Parts> Shelf<P> {
         ensures { result.now ≡ self.now.codec }
     {
         &self.codec
+    }
+
+    /// How often the folder has failed.
+    pub fn faults(&self) -> u64
+        ensures count { result ≡ (P.F.tally self.now.folder).count }
+        ensures within { IfSome (shelf_seen self.now).store.folder.most (λ most. result ≤ most) }
+    {
+        self.folder.faults()
     }
 
     /// Ends the session.

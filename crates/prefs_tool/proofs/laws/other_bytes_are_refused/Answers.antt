@@ -1,0 +1,5 @@
+use Rattle.prefs_tool.proofs.ReplayCauses.{others_are_refused}
+use Rattle.prefs_tool.proofs.laws.other_bytes_are_refused.Goals as goal
+
+pub returns : goal.returns
+returns c = others_are_refused

@@ -1,0 +1,177 @@
+-- The shelf of a script's first session, and the session that begins with it.
+use Rattle.std.proofs.Common.{◌≡◌, ◌∙◌, ◌-◌, ◌<◌, ℕ, Bool, true, false, All, List, [], ◌∷◌, length, Option, Some, None, refl, sym, ap, subst, arith, if◌then◌else◌}
+use Rattle.std.proofs.lemmas.List.Elements.{All-weaker}
+use Rattle.store_traits.specs.declared.ids.NodeId.{NodeId}
+use Rattle.folder_disk.specs.contracts.mem_folder.MemFolderFolder.TheImpl as folder
+use Rattle.folder_disk.specs.declared.mem_folder.MemFolder.{MemFolder}
+use Rattle.folder_disk.specs.Contents.{Contents, Images, Starts}
+use Rattle.folder_disk.specs.MainRead.{main_of}
+use Rattle.folder_disk.specs.MemFolder.{contents_of, fresh_contents, fresh_tally, tally_of}
+use Rattle.folder_disk.specs.Tally.{StartsTally, Tally, most_of}
+use Rattle.hist_journal.specs.declared.bounds.Bounds.{Bounds}
+use Rattle.hist_journal.specs.declared.seen.BaseSeen.{BaseSeen}
+use Rattle.hist_journal.specs.declared.seen.EntrySeen.{EntrySeen}
+use Rattle.hist_journal.specs.Folds.{raises_of}
+use Rattle.prefs_edit.specs.contracts.edit.EditTransform.TheImpl as edit
+use Rattle.prefs_proto.specs.contracts.prefs_codec.PrefsCodecCodec.TheImpl as codec
+use Rattle.prefs_proto.specs.declared.prefs_codec.PrefsCodec.{PrefsCodec}
+use Rattle.prefs_proto.specs.Reads.{Reads}
+use Rattle.shelf.specs.declared.shelf.Shelf.{Shelf}
+use Rattle.shelf.specs.declared.store.PlannedDeath.{PlannedDeath}
+use Rattle.shelf.specs.declared.store.Store.{Store}
+use Rattle.shelf.specs.AddsNode.{is_among}
+use Rattle.shelf.specs.Base.{HasItsBase, ReadsAs}
+use Rattle.shelf.specs.Opening.{Opens}
+use Rattle.shelf.specs.ShelfSeen.{ShelfSeen, shelf_seen}
+use Rattle.shelf.specs.World.{Begins}
+use Rattle.node_core.specs.Views.{world_seen}
+use Rattle.script_lang.specs.declared.script.Script.{Script}
+use Rattle.script_lang.specs.Chronicle.{nodes_of}
+use Rattle.script_lang.specs.Keeps.{Keeps}
+use Rattle.replay_run.specs.declared.prefs_parts.PrefsParts.{PrefsParts}
+use Rattle.replay_run.specs.declared.stage.Stage.{Stage}
+use Rattle.replay_run.specs.NewClients.{AreNew}
+use Rattle.replay_run.specs.PrefsBasis.{prefs_basis}
+use Rattle.replay_run.specs.Run.{new_clients}
+use Rattle.replay_run.specs.ShelfOpens.{ShelfOpens, first_nodes, with_nodes}
+use Rattle.replay_run.specs.StageScene.{StageKeeps, scene_in}
+use Rattle.replay_run.specs.StageSteps.{IsOpened, IsStoreOf}
+use Rattle.replay_run.specs.StageView.{Change, Value, rules_in, store_in, world_in}
+use Rattle.replay_run.proofs.OpeningLemmas.{all_equipped, all_rest, among_first, homes_are, nodes_numbered}
+use Rattle.replay_run.proofs.StepKeeps.{start_keeps}
+
+abbrev SettingsShelf : Type 0
+SettingsShelf = Shelf (PrefsParts MemFolder) PrefsCodec Change MemFolder Value codec.ghosts edit.ghosts folder.ghosts
+
+abbrev Seen : Type 0
+Seen = ShelfSeen PrefsCodec MemFolder Value Change
+
+no_raise : raises_of {V = Value} {T = Change} [] ≡ 0
+unfolding raises_of
+no_raise = refl
+
+-- the shelf is that of a new folder, which has the script's file
+module _ (script : Script) (unreplaced : script.start.replace ≡ false) (shelf : SettingsShelf) (first : MemFolder) (base : BaseSeen Value)
+    (opens : Opens true (contents_of first) (tally_of first) 1048576 (record { entries = script.start.entries; weight = 268435456 }) base (shelf_seen shelf)) (starts : Starts (contents_of first) (contents_of shelf.folder))
+    (tallies : StartsTally true (tally_of first) (tally_of shelf.folder)) (contents : contents_of first ≡ fresh_contents (main_of script.start.file)) (tally : tally_of first ≡ fresh_tally [])
+    (reads : ReadsAs Reads [] 1048576 (contents_of first).main base) where
+  abbrev s : Store Value (Unit {0})
+  s = store_in shelf
+
+  main_is : s.main ≡ main_of script.start.file
+  main_is = opens.main refl ∙ ap (λ (c : Contents). c.main) contents
+
+  count_is : s.folder.count ≡ 0
+  count_is = opens.count ∙ ap (λ (t : Tally). t.count) tally
+
+  -- a stop could leave nothing but main
+  kept_alone : (contents_of first).kept ≡ Images ((contents_of first).main ∷ [])
+  kept_alone = ap (λ (c : Contents). c.kept) contents ∙ ap (λ (main : Option (List ℕ)). Images (main ∷ [])) (sym (ap (λ (c : Contents). c.main) contents))
+
+  alone_is : s.alone ≡ true
+  alone_is = (opens.alone refl).1 kept_alone
+
+  begins : Begins s (world_in shelf)
+  begins =
+      record {
+        main = λ told. starts.main ∙ sym (opens.main told);
+        sections = refl;
+        alone = λ told alone. starts.kept ∙ (kept_alone ∙ ap (λ (main : Option (List ℕ)). Images (main ∷ [])) (sym (opens.main told)));
+        owner = opens.owner;
+        history = opens.list;
+        deaths = refl;
+        version = ap (λ (list : List (EntrySeen Value Change)). raises_of list) opens.list ∙ no_raise;
+        faults = tallies.count ∙ sym opens.count;
+      }
+
+  based : HasItsBase Reads [] s
+  based =
+      subst (λ (limit : ℕ). ReadsAs Reads [] limit s.main s.base) (sym opens.file)
+      (subst (λ (main : Option (List ℕ)). ReadsAs Reads [] 1048576 main s.base) (sym (opens.main refl))
+      (subst (λ (b : BaseSeen Value). ReadsAs Reads [] 1048576 (contents_of first).main b) (sym opens.base_now) reads))
+
+  -- the store of the script with these parts
+  abbrev made : BaseSeen Value → Option Value → ℕ → Bounds → List PlannedDeath → Option (List ℕ) → ℕ → Bool → Store Value (Unit {0})
+  made base handler file history deaths main count alone =
+      record {
+        base = base;
+        nodes = nodes_of script;
+        handler = handler;
+        migrations = [];
+        limits = record { file = file; history = history };
+        deaths = deaths;
+        main = main;
+        sections = [];
+        folder = record { count = count; most = s.folder.most };
+        legacy = record { count = 0; most = None };
+        alone = alone;
+      }
+
+  stores : IsStoreOf prefs_basis script (record s { nodes = nodes_of script })
+  stores plan told undying same =
+      let bounds : Bounds = record { entries = script.start.entries; weight = 268435456 } in
+      let file = main_of script.start.file in
+      let handling : Bool → Option Value = λ replace. if replace then Some [] else None in
+      let handler : Option Value = handling script.start.replace in
+      let none : handler ≡ None = ap handling unreplaced in
+      ap (λ (x : BaseSeen Value). made x None s.limits.file s.limits.history [] s.main s.folder.count s.alone) (sym same)
+      ∙ (ap (λ (x : Option Value). made told.base x s.limits.file s.limits.history [] s.main s.folder.count s.alone) (sym none)
+      ∙ (ap (λ (x : ℕ). made told.base handler x s.limits.history [] s.main s.folder.count s.alone) opens.file
+      ∙ (ap (λ (x : Bounds). made told.base handler 1048576 x [] s.main s.folder.count s.alone) opens.history
+      ∙ (ap (λ (x : List PlannedDeath). made told.base handler 1048576 bounds x s.main s.folder.count s.alone) (sym undying)
+      ∙ (ap (λ (x : Option (List ℕ)). made told.base handler 1048576 bounds plan.deaths x s.folder.count s.alone) main_is
+      ∙ (ap (λ (x : ℕ). made told.base handler 1048576 bounds plan.deaths file x s.alone) count_is
+      ∙ ap (λ (x : Bool). made told.base handler 1048576 bounds plan.deaths file 0 x) alone_is))))))
+
+  pub shelf_opens : ShelfOpens prefs_basis script shelf
+  shelf_opens =
+      record {
+        begins = begins;
+        base = based;
+        count = count_is;
+        spare = tallies.most refl ∙ ap (λ (t : Tally). most_of t.count t.due) tally;
+        nodes = opens.nodes;
+        store = stores;
+      }
+
+-- the nodes are added, and there are new clients
+module _ (script : Script) (stage : Stage) (first : SettingsShelf) (count : ℕ) (keeps : Keeps script) (opens : ShelfOpens prefs_basis script first) (added : shelf_seen stage.shelf ≡ with_nodes (shelf_seen first) (first_nodes count))
+    (counted : count ≡ length script.names.nodes) (new : AreNew script.homes stage.clients.items) (unused : stage.word ≡ 0) where
+  seen : shelf_seen stage.shelf ≡ with_nodes (shelf_seen first) (nodes_of script)
+  seen = added ∙ ap (λ (nodes : List NodeId). with_nodes (shelf_seen first) nodes) (ap first_nodes counted ∙ sym (nodes_numbered 0 script.names.nodes))
+
+  begins_now : Begins (store_in stage.shelf) (world_in stage.shelf)
+  begins_now =
+      let b = opens.begins in
+      let there : Begins (with_nodes (shelf_seen first) (nodes_of script)).store (world_seen folder.ghosts (with_nodes (shelf_seen first) (nodes_of script))) =
+      record { main = b.main; sections = b.sections; alone = b.alone; owner = b.owner; history = b.history; deaths = b.deaths; version = b.version; faults = b.faults } in
+      subst (λ (s : Seen). Begins s.store (world_seen folder.ghosts s)) (sym seen) there
+
+  clients_are : (scene_in stage).clients ≡ new_clients script.homes
+  clients_are = all_rest stage.shelf stage.clients.items new.rest ∙ new.seen
+
+  at_home : All (λ (home : NodeId). is_among home (store_in stage.shelf).nodes ≡ true) script.homes
+  at_home =
+      All-weaker (λ (home : NodeId). home.0 < length script.names.nodes) (λ (home : NodeId). is_among home (store_in stage.shelf).nodes ≡ true)
+      (λ home below.
+      ap (is_among home) (ap (λ (s : Seen). s.store.nodes) added) ∙ among_first count home (omega (arith, below, counted)))
+      script.homes keeps.homes.declared
+
+  stage_keeps : StageKeeps stage
+  stage_keeps =
+      record {
+        scene = start_keeps (rules_in stage.shelf) (store_in stage.shelf) script.homes (scene_in stage) begins_now refl (ap (λ (s : Seen). s.store.folder.count) seen ∙ opens.count) clients_are;
+        spare = ap (λ (s : Seen). s.store.folder.most) seen ∙ opens.spare;
+        number = unused ∙ sym begins_now.version;
+        nodes = homes_are (λ (home : NodeId). is_among home (store_in stage.shelf).nodes ≡ true) stage.clients.items script.homes new.seen at_home;
+        equipped = all_equipped stage.shelf stage.clients.items new.rest;
+      }
+
+  pub is_opened : IsOpened script stage
+  is_opened =
+      record {
+        begins = begins_now;
+        store = subst (λ (s : Seen). IsStoreOf prefs_basis script s.store) (sym seen) opens.store;
+        clients = clients_are;
+        keeps = stage_keeps;
+      }

@@ -1,0 +1,36 @@
+-- The shelf of a script's first session, to which the nodes are added one by one.
+use Rattle.std.specs.Prelude.{◌≡◌, ℕ, List, [], map, Some}
+use Rattle.std.specs.List.{range_with_len}
+use Rattle.store_traits.specs.declared.codec.Codec as codec_trait
+use Rattle.store_traits.specs.declared.ids.NodeId.{NodeId}
+use Rattle.store_traits.specs.declared.transform.Transform as transform_trait
+use Rattle.folder_disk.specs.declared.folder.Folder as folder_trait
+use Rattle.folder_disk.specs.declared.mem_folder.MemFolder.{MemFolder}
+use Rattle.prefs_proto.specs.declared.prefs_codec.PrefsCodec.{PrefsCodec}
+use Rattle.shelf.specs.declared.shelf.Shelf.{Shelf}
+use Rattle.shelf.specs.Base.{HasItsBase}
+use Rattle.shelf.specs.ShelfSeen.{ShelfSeen}
+use Rattle.shelf.specs.World.{Begins}
+use Rattle.script_lang.specs.declared.script.Script.{Script}
+use Rattle.script_lang.specs.Chronicle.{Basis, nodes_of}
+use Rattle.replay_run.specs.declared.prefs_parts.PrefsParts.{PrefsParts}
+use Rattle.replay_run.specs.StageSteps.{IsStoreOf}
+use Rattle.replay_run.specs.StageView.{Change, Value, store_in, world_in}
+
+-- the nodes with the first so many numbers
+abbrev pub first_nodes : ℕ → List NodeId
+first_nodes count = map (λ number. record { 0 = number }) (range_with_len 0 count)
+
+-- the same, but for its nodes
+abbrev pub with_nodes : {C F V T : Type 0} → ShelfSeen C F V T → List NodeId → ShelfSeen C F V T
+with_nodes s nodes = record s { store = record s.store { nodes = nodes } }
+
+module _ {c : codec_trait.Ghosts PrefsCodec Value} {t : transform_trait.Ghosts Change Value} {f : folder_trait.Ghosts MemFolder} where
+  -- nothing has happened yet, no call of the folder is to fail, and only the nodes are missing
+  pub record ShelfOpens (b : Basis) (script : Script) (shelf : Shelf (PrefsParts MemFolder) PrefsCodec Change MemFolder Value c t f) : Type 0 where
+    pub begins : Begins (store_in shelf) (world_in shelf)
+    pub base : HasItsBase b.rules.reads b.rules.absent (store_in shelf)
+    pub count : (store_in shelf).folder.count ≡ 0
+    pub spare : (store_in shelf).folder.most ≡ Some 0
+    pub nodes : (store_in shelf).nodes ≡ []
+    pub store : IsStoreOf b script (record (store_in shelf) { nodes = nodes_of script })
