@@ -1,11 +1,11 @@
 -- One step after another.
-use Rattle.std.proofs.Common.{◌≡◌, ℕ, ◌+◌, ◌<◌, List, [], ◌∷◌, ◌++◌, length, take, drop, get_or, suc, refl, sym, ◌∙◌, ap, add-one}
+use Rattle.std.proofs.Common.{◌≡◌, ℕ, ◌+◌, ◌<◌, List, [], ◌∷◌, ◌++◌, length, take, drop, get_or, refl, sym, ◌∙◌, ap, add-one}
 use Rattle.std.proofs.Math.Seq.{take-suc}
 use Rattle.std.proofs.lemmas.List.{take-append-drop}
 use Rattle.store_traits.specs.declared.applied.Applied.TheVariants.{Changed, Refused}
 use Rattle.prefs_model.specs.declared.pref_pair.PrefPair.{PrefPair}
 use Rattle.prefs_edit.specs.declared.edit_step.EditStep.{EditStep}
-use Rattle.prefs_edit.specs.Step.{Outcome, after_step}
+use Rattle.prefs_edit.specs.Step.{after_step}
 use Rattle.prefs_edit.specs.After.{and_then, after_steps}
 
 pub after_steps-append : (first second : List EditStep) (map : List PrefPair) → after_steps (first ++ second) map ≡ and_then (after_steps first map) (after_steps second)

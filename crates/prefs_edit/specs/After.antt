@@ -1,6 +1,5 @@
 -- What an edit makes of a map: its steps in order, of which the first that refuses refuses the whole.
 use Rattle.std.specs.Prelude.{List, [], ◌∷◌}
-use Rattle.store_traits.specs.declared.applied.Applied.{Applied}
 use Rattle.store_traits.specs.declared.applied.Applied.TheVariants.{Changed, Refused}
 use Rattle.prefs_model.specs.declared.pref_pair.PrefPair.{PrefPair}
 use Rattle.prefs_edit.specs.declared.edit_step.EditStep.{EditStep}

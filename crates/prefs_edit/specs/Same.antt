@@ -1,5 +1,5 @@
 -- Whether two values are equal in kind and content, as a test that computes.
-use Rattle.std.specs.Prelude.{ℕ, ◌==◌, Option, Some, None, Bool, true, false}
+use Rattle.std.specs.Prelude.{◌==◌, Option, Some, None, Bool, false}
 use Rattle.std.specs.Bool.{beq}
 use Rattle.std.specs.Cmp.Lexicographic.{pointwise}
 use Rattle.std.specs.Ordering.{int_eq}

@@ -5,7 +5,7 @@ use Rattle.std.specs.List.{flat_map}
 use Rattle.std.specs.Option.{option_map}
 use Rattle.prefs_model.specs.declared.pref_pair.PrefPair.{PrefPair}
 use Rattle.prefs_model.specs.declared.pref_value.PrefValue.{PrefValue}
-use Rattle.prefs_model.specs.Entry.{first_with, HasFirstValues}
+use Rattle.prefs_model.specs.Entry.{HasFirstValues}
 use Rattle.prefs_model.specs.Entry as model
 use Rattle.prefs_model.specs.Map.{IsMap, value_at}
 use Rattle.prefs_proto.specs.declared.decode_error.DecodeError.{DecodeError}

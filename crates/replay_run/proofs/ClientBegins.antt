@@ -1,5 +1,5 @@
 -- A client whose next call begins is at work, as its scene says.
-use Rattle.std.proofs.Common.{◌≡◌, ◌⊎◌, ◌∙◌, inl, inr, ◌+◌, ℕ, Bool, true, false, if◌then◌else◌, List, map, Option, Some, None, is_some, option_map, slice_get, refl, sym, ap, subst}
+use Rattle.std.proofs.Common.{◌≡◌, ◌∙◌, inl, inr, ◌+◌, ℕ, Bool, true, false, if◌then◌else◌, Option, Some, None, is_some, option_map, slice_get, refl, sym, ap, subst}
 use Rattle.std.specs.Borrow.{Bor}
 use Rattle.std.proofs.lemmas.Option.{slice_get-map}
 use Rattle.store_traits.specs.declared.codec.Codec as codec_trait
@@ -11,18 +11,16 @@ use Rattle.hist_journal.specs.Kinds.{is_call}
 use Rattle.prefs_proto.specs.declared.prefs_codec.PrefsCodec.{PrefsCodec}
 use Rattle.shelf.specs.declared.shelf.Shelf.{Shelf}
 use Rattle.shelf.specs.declared.store.Store.{Store}
-use Rattle.shelf.specs.Calls.{At, Call, First}
+use Rattle.shelf.specs.Calls.{Call}
 use Rattle.shelf.specs.ShelfSeen.{shelf_seen}
 use Rattle.shelf.specs.World.{Rules, World}
-use Rattle.shelf.proofs.Bools.{never}
-use Rattle.node_core.specs.Ready.{Equipped}
-use Rattle.node_core.specs.Views.{call_seen, room_of, state_seen}
+use Rattle.node_core.specs.Views.{room_of}
 use Rattle.replay_run.specs.declared.client.Client as own
 use Rattle.replay_run.specs.declared.prefs_parts.PrefsParts.{PrefsParts}
 use Rattle.replay_run.specs.ClientSteps.{BeginsBy, BeginsCall, GoesAlone, TakesTurn}
 use Rattle.replay_run.specs.Scene.{Client, call_of}
-use Rattle.replay_run.specs.StageView.{Change, EquippedIn, IsEquipped, Running, Value, call_in, client_in, running_seen}
-use Rattle.replay_run.specs.Step.{Acts, at_work, begin_next, has_work, new_call}
+use Rattle.replay_run.specs.StageView.{Change, EquippedIn, Running, Value, call_in, client_in, running_seen}
+use Rattle.replay_run.specs.Step.{at_work, begin_next, new_call}
 use Rattle.replay_run.proofs.ClientTurns.{at_work_same}
 use Rattle.replay_run.proofs.ReplacedClient.{same_call}
 

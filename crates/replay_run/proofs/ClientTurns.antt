@@ -1,5 +1,5 @@
 -- What a client comes to by a turn of its call.
-use Rattle.std.proofs.Common.{◌≡◌, ◌⊎◌, ◌∙◌, inl, inr, ◌≤◌, ◌||◌, ℕ, IfSome, OnOk, arith, Bool, true, false, List, [], ◌∷◌, ◌++◌, map, Option, Some, None, slice_get, refl, sym, ap, subst, Result, Ok, Err}
+use Rattle.std.proofs.Common.{◌≡◌, ◌⊎◌, ◌∙◌, inl, inr, ◌≤◌, ◌||◌, ℕ, IfSome, OnOk, arith, true, false, [], ◌∷◌, ◌++◌, map, Option, Some, None, slice_get, refl, sym, ap, Result, Ok, Err}
 use Rattle.std.specs.List.{list_any}
 use Rattle.std.proofs.lemmas.List.{map-append}
 use Rattle.store_traits.specs.declared.codec.Codec as codec_trait
@@ -18,7 +18,7 @@ use Rattle.shelf.specs.Calls.{At, Call, First, Gone, is_gone}
 use Rattle.shelf.specs.Entries.{is_death}
 use Rattle.shelf.specs.ShelfSeen.{shelf_seen}
 use Rattle.shelf.specs.Turn.{Row, Turn, begin}
-use Rattle.shelf.specs.World.{Rules, Turned, World}
+use Rattle.shelf.specs.World.{Rules, Turned}
 use Rattle.node_core.specs.Knows.{Knows}
 use Rattle.node_core.specs.Phases.{is_finishing, is_holding}
 use Rattle.node_core.specs.Step.{TurnFrom}

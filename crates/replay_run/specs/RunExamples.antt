@@ -1,5 +1,5 @@
 -- Orders to clients of the small store, and the scenes in which their runs end.
-use Rattle.std.specs.Prelude.{ℕ, ◌-◌, ◌^◌, Bool, true, false, List, [], ◌∷◌, ◌++◌, None, Result, Ok, Err}
+use Rattle.std.specs.Prelude.{ℕ, ◌-◌, ◌^◌, Bool, false, List, [], ◌∷◌, ◌++◌, None, Result, Ok, Err}
 use Rattle.store_traits.specs.declared.ids.CallId.{CallId}
 use Rattle.store_traits.specs.declared.update_error.UpdateError.{UpdateError}
 use Rattle.store_traits.specs.declared.update_error.UpdateError.TheVariants.{Refused}

@@ -1,5 +1,5 @@
 -- What contracts see of a session in progress: its scene.
-use Rattle.std.specs.Prelude.{◌≡◌, Bool, false, List, map, Option, Some, None}
+use Rattle.std.specs.Prelude.{Bool, false, List, map, Option, Some, None}
 use Rattle.store_traits.specs.declared.codec.Codec as codec_trait
 use Rattle.store_traits.specs.declared.transform.Transform as transform_trait
 use Rattle.folder_disk.specs.declared.folder.Folder as folder_trait
@@ -18,7 +18,7 @@ use Rattle.node_core.specs.Views.{call_seen, state_seen, world_seen}
 use Rattle.replay_run.specs.declared.answered.Answered as own_answered
 use Rattle.replay_run.specs.declared.client.Client as own_client
 use Rattle.replay_run.specs.declared.prefs_parts.PrefsParts.{PrefsParts}
-use Rattle.replay_run.specs.Scene.{Answered, Client, Scene}
+use Rattle.replay_run.specs.Scene.{Answered, Client}
 
 -- the settings, and their edits
 abbrev pub Value : Type 0

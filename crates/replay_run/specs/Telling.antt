@@ -1,5 +1,5 @@
 -- The lines of a transcript that tell answers.
-use Rattle.std.specs.Prelude.{◌≡◌, List, map, ◌++◌, Option, Some}
+use Rattle.std.specs.Prelude.{◌≡◌, List, map, ◌++◌, Some}
 use Rattle.prefs_text.specs.declared.answer_line.AnswerLine.{AnswerLine}
 use Rattle.prefs_text.specs.AnswerView.{line_seen}
 use Rattle.replay_run.specs.declared.answered.Answered as own

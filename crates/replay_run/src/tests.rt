@@ -1,77 +1,184 @@
-//! Scripts, and what is printed of their runs.
+//! Scripts that tell most of a run, and what another program prints of them.
 use crate::replay;
 use byte_io::MemSink;
 use script_lang::{Mode, parse_script, write_transcript};
 use std::test::Fail;
 
-/// What is printed of the run of a script.
-const RUNS: [(&str, &str); 4] = [
+/// A script, and what is printed of its run.
+const RUNS: [(&str, &str); 6] = [
+    // A file without bytes, and nothing to do.
     (
-        "",
-        "session 1
-base {}
-file none
-",
-    ),
-    // The second node waits for the first.
-    (
-        "node n1
-node n2
-client a on n1
-client b on n2
-a update addint \"x\" 1
-b update addint \"x\" 1
-go a 5
-go b 1
-",
-        "session 1
-base {}
-a 1 updated 1
-b 1 updated 2
-entry 1 a 1 inited n1
-entry 2 a 1 raise
-entry 3 a 1 edit addint \"x\" 1
-entry 4 a 1 synced
-entry 5 b 1 inited n2
-entry 6 b 1 raise
-entry 7 b 1 edit addint \"x\" 1
-entry 8 b 1 synced
-file 0a070a017812021802
-",
-    ),
-    // An equal value.
-    (
-        "file 0a070a016b12021801
+        r#"file empty
 node n1
-client a on n1
-a update set \"k\" int 1
-",
-        "session 1
-base {\"k\" int 1}
-a 1 updated 0
-entry 1 a 1 inited n1
-entry 2 a 1 same set \"k\" int 1
-entry 3 a 1 synced
-file 0a070a016b12021801
-",
-    ),
-    // The greatest number, and one more.
-    (
-        "node n1
-client a on n1
-a update set \"n\" int 2147483647
-a update addint \"n\" 1
-",
-        "session 1
+node n2
+client c1 on n2
+client c2 on n1
+client c3 on n1
+client c4 on n2
+go c2 20
+go c4 1
+"#,
+        r#"session 1
 base {}
-a 1 updated 1
-a 2 refused 2 1
-entry 1 a 1 inited n1
-entry 2 a 1 raise
-entry 3 a 1 edit set \"n\" int 2147483647
-entry 4 a 1 synced
-file 0a0b0a016e120618ffffffff07
-",
+file empty
+"#,
+    ),
+    // Nothing to take away: the value stays, and no file is made.
+    (
+        r#"node n1
+node n2
+client c1 on n1
+go c1 5
+go c1 5
+go c1 20
+c1 update clear
+"#,
+        r#"session 1
+base {}
+c1 1 updated 0
+entry 1 c1 1 inited n1
+entry 2 c1 1 same clear
+entry 3 c1 1 synced
+file none
+"#,
+    ),
+    // The file reads as no settings, which each update is told.
+    (
+        r#"file 0a
+history 13
+node n1
+node n2
+node n3
+client c1 on n3
+go c1 12
+go c1 20
+go c1 4
+c1 update toggle "t"
+go c1 0
+go c1 9
+go c1 2
+c1 update addint "x" 1
+
+go c1 2
+c1 update many addint "k" -1 ; set "flag" long 1 ; set "s" texts [  ]
+go c1 1
+go c1 4
+c1 update clear
+go c1 4
+"#,
+        r#"session 1
+base corrupt
+c1 1 corrupt
+c1 2 corrupt
+c1 3 corrupt
+c1 4 corrupt
+file 0a
+"#,
+    ),
+    // A pair that is not as required. Steps that nobody needs are no steps.
+    (
+        r#"node n1
+node n2
+client c1 on n2
+go c1 0
+go c1 20
+c1 update addint "x" 1
+c1 update require "k" float 45fec7cc
+# a comment
+go c1 5
+c1 update set "k" float b2c2e238
+go c1 2
+go c1 9
+c1 update addint "x" 1
+"#,
+        r#"session 1
+base {}
+c1 1 updated 1
+c1 2 refused 3 1
+c1 3 updated 2
+c1 4 updated 3
+entry 1 c1 1 inited n2
+entry 2 c1 1 raise
+entry 3 c1 1 edit addint "x" 1
+entry 4 c1 1 synced
+entry 5 c1 3 raise
+entry 6 c1 3 edit set "k" float b2c2e238
+entry 7 c1 3 synced
+entry 8 c1 4 raise
+entry 9 c1 4 edit addint "x" 1
+entry 10 c1 4 synced
+file 0a0a0a016b12051538e2c2b20a070a017812021802
+"#,
+    ),
+    // Two clients of one node: the first of them initialises it. Another edits what is not there.
+    (
+        r#"node n1
+node n2
+node n3
+node n4
+client c1 on n2
+client c2 on n1
+client c3 on n1
+client c4 on n3
+c4 update erase "k" "ü\n"
+go c3 20
+c2 update many set "t" texts ["back\\slash","back\\slash"] ; require "k" long 1
+go c1 9
+c4 update set "k" int 2147483647
+c3 update require "s" bool false
+go c3 11
+go c2 3
+"#,
+        r#"session 1
+base {}
+c2 1 refused 3 0
+c3 1 refused 3 0
+c4 1 updated 0
+c4 2 updated 1
+entry 1 c3 1 inited n1
+entry 2 c4 1 inited n3
+entry 3 c4 1 same erase "k" "ü\n"
+entry 4 c4 1 synced
+entry 5 c4 2 raise
+entry 6 c4 2 edit set "k" int 2147483647
+entry 7 c4 2 synced
+file 0a0b0a016b120618ffffffff07
+"#,
+    ),
+    // The history has room for more updates only until it is full.
+    (
+        r#"history 3
+node n1
+node n2
+node n3
+node n4
+client c1 on n3
+client c2 on n3
+client c3 on n4
+client c4 on n2
+go c3 0
+c4 update addlong "x" 2
+c1 update set "k" int -1
+go c1 4
+c3 update set "k" float 87aa2f3d
+go c3 8
+go c4 30
+go c3 6
+c4 update addint "k" 2
+"#,
+        r#"session 1
+base {}
+c1 1 historyfull 5 25
+c3 1 updated 1
+c4 1 historyfull 5 25
+c4 2 historyfull 5 25
+entry 1 c1 1 inited n3
+entry 2 c3 1 inited n4
+entry 3 c3 1 raise
+entry 4 c3 1 edit set "k" float 87aa2f3d
+entry 5 c3 1 synced
+file 0a0a0a016b1205153d2faa87
+"#,
     ),
 ];
 

@@ -1,13 +1,11 @@
 -- Where no line is faulty, the bytes are a script.
-use Rattle.std.proofs.Common.{ℕ, ◌≡◌, ◌+◌, ◌<◌, ◌≤◌, ◌∙◌, List, [], ◌∷◌, ◌++◌, Some, length, ap, sym, refl, subst, inl, inr, append_assoc, append-nil, lit<}
-use Rattle.std.specs.Prelude.{codes, Contains, slice_get}
+use Rattle.std.proofs.Common.{ℕ, ◌≡◌, ◌+◌, ◌<◌, ◌∙◌, List, [], ◌∷◌, ◌++◌, Some, length, ap, sym, refl, subst, inl, inr, append_assoc, append-nil, lit<}
+use Rattle.std.specs.Prelude.{Contains, slice_get}
 use Rattle.std.specs.Option.{IsSomeAnd}
-use Rattle.script_words.specs.Words.{AreWords}
 use Rattle.script_words.proofs.OneLine.{words_of}
 use Rattle.script_lang.specs.declared.draft.Draft.{Draft}
 use Rattle.script_lang.specs.declared.line.Line.{Line}
 use Rattle.script_lang.specs.declared.line.Line.TheVariants.{Nothing, File, History, Node, Client, Run}
-use Rattle.script_lang.specs.declared.line_word.LineWord.{LineWord}
 use Rattle.script_lang.specs.declared.line_word.LineWord.TheVariants as word
 use Rattle.script_lang.specs.declared.mode.Mode.{Mode}
 use Rattle.script_lang.specs.declared.run_line.Act.TheVariants.{Update, Go}
@@ -15,8 +13,7 @@ use Rattle.script_lang.specs.declared.script.Script.{Script}
 use Rattle.script_lang.specs.declared.script_error.ScriptFault.{ScriptFault}
 use Rattle.script_lang.specs.declared.script_error.ScriptFault.TheVariants.{NotUtf8, LineTooLong, TooManyLines, UnknownWord, BadValue, UnknownName, NameTaken, TooManyNames, WrongPlace, NoMemory}
 use Rattle.script_lang.specs.Draft.{draft_of}
-use Rattle.script_lang.specs.Faults.{Breaks, IsLeast, RowBreaks, SomeRowBreaks, fault_number}
-use Rattle.script_lang.specs.LineWord.{line_word}
+use Rattle.script_lang.specs.Faults.{Breaks, IsLeast, RowBreaks, fault_number}
 use Rattle.script_lang.specs.Lines.{lines_of}
 use Rattle.script_lang.specs.Meaning.{AllSay, Faulty, Means, Says, script_of}
 use Rattle.script_lang.specs.Rows.{Row, keyword, call, HasRow, IsRow, IsSkipped}

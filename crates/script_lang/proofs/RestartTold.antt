@@ -13,7 +13,7 @@ use Rattle.prefs_edit.specs.After.{after_steps}
 use Rattle.prefs_edit.specs.Step.{after_step}
 use Rattle.shelf.specs.OpenRaise.{has_open_raise}
 use Rattle.script_lang.specs.declared.run_line.Act.TheVariants as act
-use Rattle.script_lang.specs.declared.run_line.Act.TheVariants.{Update, Read, Flow}
+use Rattle.script_lang.specs.declared.run_line.Act.TheVariants.{Update}
 use Rattle.script_lang.specs.Asked.{asked_by, is_actor}
 use Rattle.script_lang.specs.Chronicle.{Chapter, IsLawful}
 use Rattle.script_lang.specs.Good.{Good}

@@ -10,7 +10,6 @@ use Rattle.hist_journal.specs.Kinds.{is_death_of, is_node}
 use Rattle.hist_journal.specs.Nodes.{death_mark, is_dead, last_mark, mark_if}
 use Rattle.shelf.specs.Deaths.{has_died}
 use Rattle.shelf.specs.Entries.{is_death}
-use Rattle.shelf.proofs.Bools.{never}
 
 neither : (x y : Bool) → (x || y) ≡ false → (x ≡ false) × (y ≡ false)
 neither false y none = (refl, none)

@@ -1,5 +1,5 @@
 -- The entries of a sync of the folder.
-use Rattle.std.proofs.Common.{◌≡◌, ◌-◌, ◌^◌, ℕ, min, true, Option, Some, None, refl, arith}
+use Rattle.std.proofs.Common.{◌≡◌, ◌-◌, ◌^◌, min, true, Option, Some, None, refl, arith}
 use Rattle.std.specs.List.{list_all}
 use Rattle.hist_journal.specs.Folds.{kind_weight}
 use Rattle.shelf.specs.Endings.{synced_kinds, synced_weight}

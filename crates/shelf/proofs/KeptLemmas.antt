@@ -1,5 +1,5 @@
 -- What a shelf keeps, from one turn to the next.
-use Rattle.std.proofs.Common.{◌≡◌, ◌∙◌, ◌+◌, ◌-◌, ◌^◌, ◌<◌, ◌≤◌, ◌⊎◌, inl, inr, ⊎_elim, ℕ, min, Bool, true, false, ◌||◌, ◌&&◌, nat_le, IsTrue, List, [], ◌∷◌, ◌++◌, Option, Some, None, length, cond, refl, sym, ap, subst, arith, if◌then◌else◌}
+use Rattle.std.proofs.Common.{◌≡◌, ◌∙◌, ◌+◌, ◌-◌, ◌^◌, ◌<◌, ◌≤◌, ◌⊎◌, inl, inr, ⊎_elim, ℕ, min, Bool, true, false, nat_le, IsTrue, List, [], ◌∷◌, ◌++◌, Option, Some, None, length, cond, refl, sym, ap, subst, arith, if◌then◌else◌}
 use Rattle.std.proofs.Math.Logic.{∥∥₁_map}
 use Rattle.std.specs.List.{list_any, list_all}
 use Rattle.std.proofs.lemmas.Bool.Decides.{nat_tests}
@@ -10,18 +10,16 @@ use Rattle.folder_disk.specs.declared.call.FolderCall.{FolderCall}
 use Rattle.folder_disk.specs.Contents.{Contents, Scratch, ChangesScratch, LoosensScratch, folder_synced, renamed}
 use Rattle.folder_disk.specs.Tally.{Tally, Tallies}
 use Rattle.hist_journal.specs.declared.device.Device.TheVariants.{Folder}
-use Rattle.hist_journal.specs.declared.seen.BaseSeen.{BaseSeen}
 use Rattle.hist_journal.specs.declared.seen.EntrySeen.{EntrySeen}
 use Rattle.hist_journal.specs.declared.seen.KindSeen.{KindSeen}
 use Rattle.hist_journal.specs.declared.seen.KindSeen.TheVariants.{Fault}
 use Rattle.hist_journal.specs.Folds.{kind_weight, weight_of}
-use Rattle.hist_journal.specs.Journal.{JournalSeen}
 use Rattle.hist_journal.specs.Kinds.{is_change, is_fault}
 use Rattle.hist_journal.proofs.FoldLemmas.{weight_of-push, main_of-other, main_of-change, value_of-other, edition_of-other}
 use Rattle.shelf.specs.declared.ledger.Ledger.{Ledger}
 use Rattle.shelf.specs.declared.store.Store.{Store}
 use Rattle.shelf.specs.Effects.{with_entries}
-use Rattle.shelf.specs.FaultCounts.{RaisesCount, has_reached, is_device}
+use Rattle.shelf.specs.FaultCounts.{RaisesCount, has_reached}
 use Rattle.shelf.specs.Kept.{Kept, KeptMain}
 use Rattle.shelf.specs.Ledger.{Enters, LedgerSeen, ledger_seen}
 use Rattle.shelf.specs.Legal.{Fits}

@@ -1,7 +1,6 @@
 -- A ledger with one more entry.
-use Rattle.std.proofs.Common.{◌≡◌, ◌∙◌, ◌+◌, ◌-◌, ◌^◌, ◌≤◌, ◌<◌, ◌==◌, ◌⊎◌, inl, inr, ⊎_elim, ℕ, min, Bool, true, false, ◌||◌, ◌&&◌, not, List, [], ◌∷◌, ◌++◌, Option, Some, None, unwrap_or, cond, length, map, suc, refl, sym, ap, arith}
+use Rattle.std.proofs.Common.{◌≡◌, ◌∙◌, ◌+◌, ◌-◌, ◌≤◌, ◌==◌, ◌⊎◌, inl, inr, ⊎_elim, ℕ, Bool, true, false, ◌||◌, ◌&&◌, List, [], ◌∷◌, ◌++◌, Option, Some, None, unwrap_or, cond, length, suc, refl, sym, ap, arith}
 use Rattle.std.specs.List.{list_any}
-use Rattle.std.proofs.lemmas.Bool.Decides.{nat_tests}
 use Rattle.std.proofs.lemmas.Bool.{eqb-true}
 use Rattle.std.proofs.lemmas.List.Folds.{list_any-append}
 use Rattle.store_traits.specs.declared.ids.CallId.{CallId}
@@ -10,11 +9,11 @@ use Rattle.store_traits.specs.declared.ids.ClientId.{ClientId}
 use Rattle.hist_journal.specs.declared.device.Device.TheVariants.{Folder}
 use Rattle.hist_journal.specs.declared.seen.EntrySeen.{EntrySeen}
 use Rattle.hist_journal.specs.declared.seen.KindSeen.{KindSeen}
-use Rattle.hist_journal.specs.declared.seen.KindSeen.TheVariants.{Raise, Edit, Same, Replace, Migrate, Synced, Cleared, Inited, Fault, Death, Restart}
+use Rattle.hist_journal.specs.declared.seen.KindSeen.TheVariants.{Inited, Fault, Death}
 use Rattle.hist_journal.specs.Folds.{edition_of, raises_of}
 use Rattle.hist_journal.specs.Kinds.{is_call, is_node, is_raise, is_change}
 use Rattle.hist_journal.specs.Nodes.{is_ready, last_mark, mark_if, ready_mark}
-use Rattle.hist_journal.specs.Quiet.{ends, pending, pending_after, still_pending}
+use Rattle.hist_journal.specs.Quiet.{ends, pending, still_pending}
 use Rattle.hist_journal.proofs.FoldLemmas.{edition_of-push, edition_of-le, edition_of-other, raises_of-le, raises_of-raise}
 use Rattle.hist_journal.proofs.NodeLemmas.{is_ready-push}
 use Rattle.hist_journal.proofs.QuietLemmas.{pending-push}

@@ -1,10 +1,8 @@
 -- What a shelf keeps when it is made, and when a node is added.
-use Rattle.std.proofs.Common.{◌≡◌, ◌∙◌, ◌-◌, ◌^◌, ◌<◌, ◌≤◌, ◌⊎◌, inl, inr, ⊎_elim, ℕ, min, Bool, true, false, IsTrue, List, [], ◌∷◌, ◌++◌, Option, None, length, refl, sym, ap, arith, if◌then◌else◌}
-use Rattle.std.specs.List.{list_any}
+use Rattle.std.proofs.Common.{◌≡◌, ◌∙◌, ◌-◌, ◌≤◌, ◌⊎◌, inl, inr, ⊎_elim, ℕ, Bool, true, false, IsTrue, List, [], None, refl, sym, arith, if◌then◌else◌}
 use Rattle.std.proofs.Math.Logic.{∥∥₁_map}
 use Rattle.folder_disk.specs.Contents.{Contents, Starts}
 use Rattle.folder_disk.specs.Tally.{Tally}
-use Rattle.hist_journal.specs.declared.device.Device.{Device}
 use Rattle.hist_journal.specs.declared.device.Device.TheVariants.{Folder, Legacy}
 use Rattle.hist_journal.specs.declared.seen.EntrySeen.{EntrySeen}
 use Rattle.hist_journal.specs.declared.seen.KindSeen.{KindSeen}
@@ -15,13 +13,11 @@ use Rattle.shelf.specs.declared.store.Store.{Store}
 use Rattle.store_traits.specs.declared.ids.NodeId.{NodeId}
 use Rattle.shelf.specs.Base.{ReadsAs}
 use Rattle.shelf.specs.FaultCounts.{RaisesCount}
-use Rattle.shelf.specs.Images.{main_at}
-use Rattle.shelf.specs.Kept.{Kept, KeptMain}
-use Rattle.shelf.specs.Ledger.{ledger_seen}
+use Rattle.shelf.specs.Kept.{Kept}
 use Rattle.shelf.specs.Legal.{Fits, Legal}
 use Rattle.shelf.specs.NodeStates.{ids}
 use Rattle.shelf.specs.StoreSeen.{store_with}
-use Rattle.shelf.specs.World.{Rules, weight_at}
+use Rattle.shelf.specs.World.{Rules}
 use Rattle.shelf.proofs.LegalLemmas.{Legal-empty}
 
 told_is : {X : Type 0} (told : Bool) (x hidden : X) → IsTrue told → (if told then x else hidden) ≡ x

@@ -1,5 +1,5 @@
 -- What main reads as is the value of the history.
-use Rattle.std.proofs.Common.{◌≡◌, ◌∙◌, ◌+◌, ◌^◌, ◌<◌, ◌≤◌, ◌==◌, ℕ, zero, suc, Bool, true, false, IsTrue, List, [], ◌∷◌, Option, Some, None, IfSome, Ok, length, refl, sym, ap, subst, arith, cond, if◌then◌else◌}
+use Rattle.std.proofs.Common.{◌≡◌, ◌∙◌, ◌+◌, ◌^◌, ◌<◌, ◌==◌, ℕ, zero, suc, Bool, true, false, IsTrue, List, [], ◌∷◌, Option, Some, None, IfSome, Ok, length, refl, sym, ap, arith, cond, if◌then◌else◌}
 use Rattle.std.proofs.lemmas.Bool.Decides.{nat_tests}
 use Rattle.store_traits.specs.declared.applied.Applied.{Applied}
 use Rattle.folder_disk.specs.Contents.{Contents}
@@ -17,8 +17,7 @@ use Rattle.shelf.specs.declared.answers.Loaded.{Loaded}
 use Rattle.shelf.specs.declared.answers.Loaded.TheVariants.{Value, Corrupt, TooLong, Faulted, NoMemory}
 use Rattle.shelf.specs.declared.store.Store.{Store}
 use Rattle.shelf.specs.Base.{ReadsAs}
-use Rattle.shelf.specs.Images.{main_at}
-use Rattle.shelf.specs.Kept.{Kept, KeptMain, IsStored}
+use Rattle.shelf.specs.Kept.{KeptMain}
 use Rattle.shelf.specs.Legal.{value_at}
 use Rattle.shelf.specs.Loading.{base_of, DecodesAs}
 use Rattle.shelf.specs.World.{Rules}

@@ -1,5 +1,5 @@
 -- The entries with which a sync of the folder is told.
-use Rattle.std.specs.Prelude.{◌∷◌, [], ◌+◌, ℕ, List, Option, Some, None}
+use Rattle.std.specs.Prelude.{◌∷◌, [], ℕ, List, Option, Some, None}
 use Rattle.hist_journal.specs.declared.seen.KindSeen.{KindSeen}
 use Rattle.hist_journal.specs.declared.seen.KindSeen.TheVariants.{Same, Synced}
 

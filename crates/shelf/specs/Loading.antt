@@ -1,5 +1,5 @@
 -- What a read of main gives, and why.
-use Rattle.std.specs.Prelude.{◌≡◌, ◌⊎◌, ◌<◌, ◌≤◌, ℕ, Bool, true, false, IsTrue, List, [], Option, Some, None}
+use Rattle.std.specs.Prelude.{◌≡◌, ◌⊎◌, ℕ, Bool, true, false, List, [], Option, Some, None}
 use Rattle.store_traits.specs.declared.decoded.Decoded.{Decoded}
 use Rattle.store_traits.specs.declared.decoded.Decoded.TheVariants as decoded
 use Rattle.store_traits.specs.declared.ids.CallId.{CallId}

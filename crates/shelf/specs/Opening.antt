@@ -1,5 +1,5 @@
 -- A session begins.
-use Rattle.std.specs.Prelude.{◌≡◌, ◌↔◌, ℕ, Bool, IsTrue, List, [], ◌∷◌, None}
+use Rattle.std.specs.Prelude.{◌≡◌, ◌↔◌, ℕ, Bool, IsTrue, [], ◌∷◌, None}
 use Rattle.folder_disk.specs.Contents.{Contents, Images}
 use Rattle.folder_disk.specs.Tally.{Tally}
 use Rattle.hist_journal.specs.declared.bounds.Bounds.{Bounds}

@@ -1,5 +1,5 @@
 -- The store of a shelf, read off what the shelf has.
-use Rattle.std.specs.Prelude.{ℕ, Bool, false, List, [], Option, None, if◌then◌else◌}
+use Rattle.std.specs.Prelude.{ℕ, Bool, false, List, [], None, if◌then◌else◌}
 use Rattle.folder_disk.specs.Contents.{Contents}
 use Rattle.folder_disk.specs.Tally.{Tally}
 use Rattle.hist_journal.specs.Journal.{JournalSeen}

@@ -1,4 +1,4 @@
-use Rattle.std.proofs.Common.{rules, refl, sym, ap, ◌∙◌}
+use Rattle.std.proofs.Common.{refl, sym, ap, ◌∙◌}
 use Rattle.hist_journal.specs.ListedJournal.{journal_meaning}
 use Rattle.version_room.proofs.TurnLemmas.{took, follows_one, follows_unchanged, rested}
 use Rattle.ds_bench.proofs.room.push_in_turn.Goals as goal

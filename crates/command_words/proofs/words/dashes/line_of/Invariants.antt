@@ -1,5 +1,4 @@
-use Rattle.std.proofs.Common.{◌≡◌, ◌∷◌, ◌++◌, codes, take}
-use Rattle.command_words.specs.Command.{texts}
+use Rattle.std.proofs.Common.{◌≡◌, ◌∷◌, codes}
 use Rattle.command_words.specs.Line.{texts_at}
 use Rattle.command_words.proofs.words.dashes.line_of.Given as goal
 

@@ -1,4 +1,4 @@
-use Rattle.std.proofs.Common.{◌≡◌, ◌∙◌, Some, Ok, Err, refl, sym, ap, subst}
+use Rattle.std.proofs.Common.{◌∙◌, Some, Err, refl, sym, ap, subst}
 use Rattle.store_traits.specs.declared.update_error.UpdateError.TheVariants.{NoMemory}
 use Rattle.folder_disk.specs.contracts.mem_folder.MemFolderFolder.TheImpl as folder
 use Rattle.prefs_edit.specs.contracts.edit.EditTransform.TheImpl as edit

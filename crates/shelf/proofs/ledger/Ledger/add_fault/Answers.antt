@@ -1,7 +1,6 @@
-use Rattle.std.proofs.Common.{arith, sym, refl, ap, ◌∙◌}
-use Rattle.hist_journal.proofs.FoldLemmas.{edition_of-other}
+use Rattle.std.proofs.Common.{arith, sym, refl, ◌∙◌}
 use Rattle.shelf.proofs.Bools.{never}
-use Rattle.shelf.proofs.LedgerLemmas.{freed_own, freed_room_own, freed_other, freed_room_other, other_edition, fault_ends, quiet_ended, quiet_other, ready_other, no_deaths_on}
+use Rattle.shelf.proofs.LedgerLemmas.{freed_room_other, other_edition, fault_ends, quiet_ended, quiet_other, ready_other, no_deaths_on}
 use Rattle.shelf.proofs.ledger.Ledger.add_fault.Goals as goal
 
 pub invariant_of-self : goal.invariant_of-self

@@ -1,4 +1,4 @@
-use Rattle.std.proofs.Common.{arith, refl, ◌∙◌, ◌≡◌, [], rules}
+use Rattle.std.proofs.Common.{arith, refl, ◌≡◌, []}
 use Rattle.shelf.proofs.LedgerLemmas.{no_editions, no_raise, no_nodes}
 use Rattle.shelf.proofs.ledger.Ledger.new.Goals as goal
 

@@ -1,5 +1,4 @@
-use Rattle.std.proofs.Common.{arith, ap, ◌≡◌}
-use Rattle.shelf.specs.Ledger.{ledger_seen}
+use Rattle.std.proofs.Common.{arith, ap}
 use Rattle.shelf.proofs.OpeningLemmas.{kept_new}
 use Rattle.shelf.proofs.shelf.Shelf.new.Goals as goal
 

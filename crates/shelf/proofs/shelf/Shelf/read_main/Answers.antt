@@ -1,4 +1,3 @@
-use Rattle.std.proofs.Common.{refl, sym, ap, ◌∙◌}
 use Rattle.std.proofs.Math.Logic.{∥∥₁_elim}
 use Rattle.shelf.proofs.BaseSets.{base_set}
 use Rattle.shelf.proofs.KeptLemmas.{kept_still, kept_fault, equal_stays}

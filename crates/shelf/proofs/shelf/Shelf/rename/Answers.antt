@@ -1,4 +1,3 @@
-use Rattle.std.proofs.Common.{refl}
 use Rattle.shelf.proofs.KeptLemmas.{kept_change, kept_fault, renamed_starts, equal_stays}
 use Rattle.shelf.proofs.shelf.Shelf.rename.Goals as goal
 

@@ -1,4 +1,3 @@
-use Rattle.std.proofs.Common.{refl}
 use Rattle.shelf.specs.World.{rules_of}
 use Rattle.shelf.proofs.EndingLemmas.{synced_plain, synced_weighs}
 use Rattle.shelf.proofs.KeptLemmas.{kept_kinds, kept_fault, synced_stays, equal_stays}
