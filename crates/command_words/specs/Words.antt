@@ -1,5 +1,5 @@
 -- The words that are given to a command.
-use Rattle.std.specs.Prelude.{ℕ, ◌≡◌, ◌≢◌, List, ◌++◌, All, codes, slice_index}
+use Rattle.std.specs.Prelude.{ℕ, ◌≡◌, ◌≢◌, ◌⊎◌, List, [], ◌∷◌, ◌++◌, All, codes, slice_index}
 
 -- the word does not begin with `-`
 abbrev pub IsNoOption : List ℕ → Type 0

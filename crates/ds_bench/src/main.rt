@@ -75,16 +75,18 @@ fn shown(alloc: Global, bytes: &[u8]) -> Result<u64> {
 /// `ds_bench transcript LINES TIMES` prints that word, the lines, how many transcripts of so many lines are written
 /// in a round, and the nanoseconds of the fastest of so many rounds.
 /// `ds_bench scripts` reads a script of 10,000 lines and one of 100,000.
-/// `ds_bench replay updates TIMES` replays 20 scripts of 1,000 updates over two clients and one of 20,000, and prints the
-/// nanoseconds of the fastest of so many rounds of each. Without words it does nothing.
+/// `ds_bench replay` replays scripts of 1,000 and of 20,000 updates over two clients.
+/// Without words it does nothing.
 fn main(rt: HostRuntime) -> Result<()> {
     let mut words = env::args(&rt)?;
     let _program = words.next();
     let Some(name) = words.next() else {
         return Ok(());
     };
-    if name.as_str() == "scripts" {
-        return scripts::run(&rt);
+    match name.as_str() {
+        "scripts" => return scripts::run(&rt),
+        "replay" => return replays::run(&rt),
+        _ => {}
     }
     let place = words
         .next()
@@ -94,9 +96,6 @@ fn main(rt: HostRuntime) -> Result<()> {
         .context("how often?")?
         .parse::<u32>()
         .context("how often?")?;
-    if name.as_str() == "replay" {
-        return replays::run(&rt, times);
-    }
     if let Some(work) = RoomWork::named(name.as_str()) {
         let threads = place.parse::<u32>().context("how many threads?")?;
         let start = Instant::now(&rt)?;

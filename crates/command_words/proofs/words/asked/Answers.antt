@@ -1,4 +1,4 @@
-use Rattle.std.proofs.Common.{◌≡◌, ◌∷◌, ◌∙◌, List, ap, codes, false, string_bytes, subst, sym, true, ℕ}
+use Rattle.std.proofs.Common.{◌≡◌, ◌∷◌, ◌∙◌, ◌++◌, List, ap, codes, false, string_bytes, subst, sym, true, ℕ}
 use Rattle.std.proofs.lemmas.Result.{IfOk-weaker}
 use Rattle.command_words.specs.Command.{texts}
 use Rattle.command_words.specs.Line.{MayFollow, texts_at}

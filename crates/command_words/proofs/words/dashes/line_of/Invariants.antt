@@ -1,4 +1,5 @@
-use Rattle.std.proofs.Common.{◌≡◌, ◌∷◌, codes}
+use Rattle.std.proofs.Common.{◌≡◌, ◌∷◌, ◌++◌, codes, take}
+use Rattle.command_words.specs.Command.{texts}
 use Rattle.command_words.specs.Line.{texts_at}
 use Rattle.command_words.proofs.words.dashes.line_of.Given as goal
 
