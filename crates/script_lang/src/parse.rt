@@ -1,4 +1,5 @@
 ghost use Rattle.std.specs.Prelude.{IfOk, IfErr};
+ghost use Rattle.script_lang.specs.Keeps.{Keeps};
 ghost use Rattle.script_lang.specs.Meaning.{Means, IsRefusalOf};
 ghost use Rattle.script_lang.specs.Reading.{GoesOn, StopsAt};
 
@@ -10,6 +11,8 @@ use std::alloc::Global;
 /// The script that the bytes are, in time linear in their number.
 pub fn parse_script(alloc: Global, bytes: &[u8], mode: Mode) -> Result<Script, ScriptError>
     ensures ok { IfOk result (Means mode bytes.now) }
+    // It keeps what a script is to keep, so that it can be run.
+    ensures keeps { IfOk result Keeps }
     ensures err { IfErr result (IsRefusalOf mode bytes.now) }
 {
     let mut draft = Draft::new(alloc, mode);
