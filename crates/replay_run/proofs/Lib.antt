@@ -13,10 +13,12 @@ pub mod GoodRun
 pub mod GoodSession
 pub mod LineLemmas
 pub mod OpeningLemmas
+pub mod Outcomes
 pub mod OverLemmas
 pub mod OwnTurns
 pub mod PlayedRuns
 pub mod ReplacedClient
+pub mod RowOutcomes
 pub mod RunClients
 pub mod RunLemmas
 pub mod ServedOrders
