@@ -12,6 +12,10 @@ pub mod GoodOrder
 pub mod GoodRun
 pub mod GoodSession
 pub mod LineLemmas
+pub mod OneRun
+pub mod OneStep
+pub mod OneTranscript
+pub mod OneTurn
 pub mod OpeningLemmas
 pub mod Outcomes
 pub mod OverLemmas

@@ -1,18 +1,17 @@
 -- What a row of the step table comes to: one outcome at most for each cause.
-use Rattle.std.proofs.Common.{◌≡◌, ◌∙◌, ◌⊎◌, ◌≢◌, inl, inr, ◌+◌, ◌-◌, ◌^◌, ◌≤◌, ◌<◌, ℕ, min, Bool, true, false, List, [], ◌∷◌, ◌++◌, length, Some, refl, sym, ap, subst, arith, if◌then◌else◌, Result, Ok, Err}
+use Rattle.std.proofs.Common.{◌≡◌, ◌∙◌, ◌⊎◌, ◌≢◌, inl, inr, ◌+◌, ◌-◌, ◌^◌, ◌≤◌, ◌<◌, ℕ, min, Bool, true, false, List, [], ◌∷◌, ◌++◌, length, take, Option, Some, None, refl, sym, ap, subst, arith, if◌then◌else◌, Result, Ok, Err}
 use Rattle.store_traits.specs.declared.applied.Applied.{Applied}
 use Rattle.store_traits.specs.declared.applied.Applied.TheVariants as applied
+use Rattle.store_traits.specs.declared.ids.CallId.{CallId}
 use Rattle.store_traits.specs.declared.update_error.UpdateError.{UpdateError}
 use Rattle.store_traits.specs.declared.update_error.UpdateError.TheVariants as error
-use Rattle.file_lock.specs.Owner.{IsAnother, freed_node}
-use Rattle.folder_disk.specs.Contents.{Contents, Unsynced, Synced, folder_synced, renamed, scratch_bytes}
+use Rattle.folder_disk.specs.Contents.{Contents, LoosensScratch, Unsynced, Synced, folder_synced, renamed, scratch_bytes}
 use Rattle.hist_journal.specs.declared.seen.BaseSeen.{BaseSeen}
 use Rattle.hist_journal.specs.declared.seen.BaseSeen.TheVariants.{Held, Corrupt, TooLong}
 use Rattle.hist_journal.specs.declared.seen.KindSeen.{KindSeen}
-use Rattle.hist_journal.specs.declared.seen.KindSeen.TheVariants.{Raise, Edit, Death, Inited}
+use Rattle.hist_journal.specs.declared.seen.KindSeen.TheVariants.{Raise, Edit, Inited}
 use Rattle.hist_journal.specs.Folds.{edition_of}
 use Rattle.hist_journal.specs.Nodes.{is_ready}
-use Rattle.scratch_rename.specs.Filling.{next_piece}
 use Rattle.shelf.specs.declared.progress.Progress.{Progress}
 use Rattle.shelf.specs.declared.progress.Progress.TheVariants.{Moved, Blocked, Ended}
 use Rattle.shelf.specs.declared.store.Limits.{Limits}
@@ -20,15 +19,15 @@ use Rattle.shelf.specs.declared.store.Store.{Store}
 use Rattle.shelf.specs.ApplyRow.{Applies}
 use Rattle.shelf.specs.Base.{ReadsAs}
 use Rattle.shelf.specs.Calls.{At, Call, First, ReadingFirst, Migrating, Finishing, Reading, Raising, Creating, Appending, SyncingScratch, Renaming, SyncingFolder, Gone, Changed, Kept, ended}
-use Rattle.shelf.specs.Deaths.{last_death, used_up}
+use Rattle.shelf.specs.Deaths.{last_death}
 use Rattle.shelf.specs.Effects.{Keeps, at_next, freed, next_place, with_entries}
 use Rattle.shelf.specs.Endings.{synced_kinds}
 use Rattle.shelf.specs.LastRows.{kept_edit}
-use Rattle.shelf.specs.LockRow.{LockRow, most_entries}
+use Rattle.shelf.specs.LockRow.{IsFree, LockRow, Waits, most_entries}
 use Rattle.shelf.specs.ReadRows.{ReadRow, ToMigrations}
-use Rattle.shelf.specs.Turn.{EndsDead, EndsDying, Row, TurnBy, step_of}
+use Rattle.shelf.specs.Turn.{Dies, EndsDead, EndsDying, Row, TurnBy}
 use Rattle.shelf.specs.World.{Rules, World, weight_at}
-use Rattle.shelf.specs.WriteRows.{FolderRow, filling, piece_written}
+use Rattle.shelf.specs.WriteRows.{Appends, Creates, FolderRow, Renames, SyncsScratch, filling, piece_written}
 use Rattle.node_core.specs.Views.{unwritten}
 use Rattle.replay_run.proofs.Outcomes.{Outcome, came, came_is, does_comes, ending, fails_never, going_on, last_comes, read_ends, scratch_is, stops_comes, turn_to}
 
@@ -41,8 +40,11 @@ module _ {V T : Type 0} (r : Rules V T) (limits : Limits) (w : World V T) (c : C
   abbrev pub HasNone : Type 0
   HasNone = (limits.history.entries ≤ length w.history) ⊎ (limits.history.weight ≤ weight_at r w.history)
 
-  abbrev pub IsFree : Type 0
-  IsFree = IsAnother w.owner c.id → ⊥
+  -- another call owns the lock
+  pub record IsOwned : Type 0 where
+    pub owner : CallId
+    pub owned : w.owner ≡ Some owner
+    pub other : owner ≢ c.id
 
   abbrev pub taking : T → Outcome V T
   taking edit =
@@ -54,7 +56,7 @@ module _ {V T : Type 0} (r : Rules V T) (limits : Limits) (w : World V T) (c : C
 
   -- it is blocked; or the lock is taken, or the history is full
   abbrev pub LockComes : T → Outcome V T → Type 0
-  LockComes edit o = (IsAnother w.owner c.id × (o ≡ came Blocked w c)) ⊎ (IsFree × ((HasSpace × (o ≡ taking edit)) ⊎ (HasNone × (o ≡ full))))
+  LockComes edit o = (IsOwned × (o ≡ came Blocked w c)) ⊎ ((IsOwned → ⊥) × ((HasSpace × (o ≡ taking edit)) ⊎ (HasNone × (o ≡ full))))
 
   -- what comes of a value that was read, or of a file that is none
   abbrev pub ComesOf : (V → Outcome V T → Type 0) → BaseSeen V → Outcome V T → Type 0
@@ -86,7 +88,7 @@ module _ {V T : Type 0} (r : Rules V T) (limits : Limits) (w : World V T) (c : C
   RowComes (Reading edit) o = ReadComes (λ value o. AppliedComes edit value (r.meanings.after edit value) o) o
   RowComes (Raising plan) o = o ≡ came Moved (record w { version = w.version + 1; history = with_entries c.id (Raise ∷ []) w.history }) (at_next 1 (Creating plan) c)
   RowComes (Creating plan) o = o ≡ going_on w c (record w.folder { scratch = Unsynced [] }) [] (filling plan)
-  RowComes (Appending plan) o = o ≡ going_on w c (record w.folder { scratch = Unsynced (scratch_bytes w.folder.scratch ++ next_piece plan.text) }) [] (filling (piece_written plan))
+  RowComes (Appending plan) o = o ≡ going_on w c (record w.folder { scratch = Unsynced (scratch_bytes w.folder.scratch ++ take 4096 plan.text.rest) }) [] (filling (piece_written plan))
   RowComes (SyncingScratch plan) o = o ≡ going_on w c (record w.folder { scratch = Synced (scratch_bytes w.folder.scratch) }) [] (Renaming plan)
   RowComes (Renaming plan) o = o ≡ going_on w c (renamed w.folder) (plan.change ∷ []) (SyncingFolder (Changed (next_place w)))
   RowComes (SyncingFolder told) o = o ≡ ending w c (Ok (edition_of w.history)) (folder_synced w.folder) (synced_kinds (kept_edit told))
@@ -98,20 +100,15 @@ module _ {V T : Type 0} (r : Rules V T) (limits : Limits) (w : World V T) (c : C
     pub last : last_death c.id.node w.history ≡ Some place
     pub comes : o ≡ came (Ended (Err (error.Died place))) w (ended c)
 
-  abbrev pub dying : Outcome V T
-  dying =
-      came (Ended (Err (error.Died (next_place w))))
-      (record w {
-        deaths = used_up c.id (step_of (turn_to w c w c)) w.deaths;
-        history = with_entries c.id (Death c.id.node ∷ []) w.history;
-        owner = freed_node c.id.node w.owner;
-      })
-      (ended c)
+  -- a planned death strikes
+  pub record DyingComes (o : Outcome V T) : Type 0 where
+    pub gave : o.gave ≡ Ended (Err (error.Died (next_place w)))
+    pub dies : Dies (turn_to w c o.world o.call)
 
   abbrev pub TurnComes : (gone died dies : Bool) → Outcome V T → Type 0
   TurnComes true died dies o = ⊥
   TurnComes false true dies o = DeadComes o
-  TurnComes false false true o = o ≡ dying
+  TurnComes false false true o = DyingComes o
   TurnComes false false false o = RowComes c.at o
 
 module _ {V T M : Type 0} (r : Rules V T) (s : Store V M) (w : World V T) (c : Call V T) (told : w.told ≡ true) (none : w.faults ≡ 0) (now : World V T) (next : Call V T) (unfailed : now.faults ≡ w.faults) where
@@ -121,9 +118,16 @@ module _ {V T M : Type 0} (r : Rules V T) (s : Store V M) (w : World V T) (c : C
   abbrev HasMemory : Gave → Type 0
   HasMemory gave = gave ≡ Ended (Err error.NoMemory) → ⊥
 
+  is_owned : (owner : Option CallId) → w.owner ≡ owner → Waits r s (turn_to w c now next) → IsOwned r s.limits w c
+  is_owned None is it = absurd (rw is at it.owned)
+  is_owned (Some owner) is it = record { owner = owner; owned = is; other = rw is at it.owned }
+
+  is_free : IsFree r s (turn_to w c now next) → IsOwned r s.limits w c → ⊥
+  is_free free it = let owned = it.owned in free (rw owned it.other)
+
   lock_comes : (edit : T) (gave : Gave) → LockRow r s (turn_to w c now next) edit gave → HasMemory gave → LockComes r s.limits w c edit (came gave now next)
-  lock_comes edit Blocked it memory = inl (it.owned, came_is w c told now next unfailed Blocked w c it.world it.call)
-  lock_comes edit Moved it memory = inr (it.free, inl ((it.bounds.entries, it.bounds.weight), came_is w c told now next unfailed Moved _ _ it.world it.call))
+  lock_comes edit Blocked it memory = inl (is_owned w.owner refl it, came_is w c told now next unfailed Blocked w c it.world it.call)
+  lock_comes edit Moved it memory = inr (is_free it.free, inl ((it.bounds.entries, it.bounds.weight), came_is w c told now next unfailed Moved _ _ it.world it.call))
   lock_comes edit (Ended (Err (error.HistoryFull entries weight))) it memory =
       let full = it.1 in
       let bound : HasNone r s.limits w c =
@@ -132,7 +136,7 @@ module _ {V T M : Type 0} (r : Rules V T) (s : Store V M) (w : World V T) (c : C
         | inr most ↦ inr (subst (λ (n : ℕ). s.limits.history.weight ≤ n) full.weight_now most)
       ] in
       inr
-      (it.0,
+      (is_free it.0,
         inr
         (bound,
           stops_comes w c told now next unfailed (Err (error.HistoryFull entries weight)) it.2
@@ -188,11 +192,11 @@ module _ {V T M : Type 0} (r : Rules V T) (s : Store V M) (w : World V T) (c : C
       made_comes edit value change.old change.new (Ended (Err (error.ValueTooLong len))) change.held change.makes (inr (differs, inr (longer, ends)))
   applies_comes edit value other it = absurd it
 
-  folder_comes : {Makes Leaves : Contents → Contents → Type 0} (kinds : List (KindSeen V T)) (at : At V T) (folder : Contents) → (Makes w.folder now.folder → now.folder ≡ folder) → (gave : Gave)
+  folder_comes : (Makes Leaves : Contents → Contents → Type 0) (kinds : List (KindSeen V T)) (at : At V T) (folder : Contents) → (Makes w.folder now.folder → now.folder ≡ folder) → (gave : Gave)
       → FolderRow (turn_to w c now next) Makes kinds at Leaves gave → came gave now next ≡ going_on w c folder kinds at
-  folder_comes kinds at folder makes Moved it = does_comes w c told now next unfailed kinds at folder makes it
-  folder_comes kinds at folder makes (Ended (Err (error.StorageFault place))) it = absurd (fails_never w c told now next unfailed none it.1)
-  folder_comes kinds at folder makes other it = absurd it
+  folder_comes Makes Leaves kinds at folder makes Moved it = does_comes w c told now next unfailed kinds at folder makes it
+  folder_comes Makes Leaves kinds at folder makes (Ended (Err (error.StorageFault place))) it = absurd (fails_never w c told now next unfailed none it.1)
+  folder_comes Makes Leaves kinds at folder makes other it = absurd it
 
   row_comes : (at : At V T) (gave : Gave) → Row r s at (turn_to w c now next) gave → HasMemory gave → RowComes r s.limits w c at (came gave now next)
   row_comes (First edit) gave it memory = lock_comes edit gave it memory
@@ -202,10 +206,10 @@ module _ {V T M : Type 0} (r : Rules V T) (s : Store V M) (w : World V T) (c : C
   row_comes (Finishing edit) Moved it memory = came_is w c told now next unfailed Moved _ _ it.world it.call
   row_comes (Reading edit) gave it memory = read_comes (Applies r s (turn_to w c now next) edit) (λ value o. AppliedComes r s.limits w c edit value (r.meanings.after edit value) o) gave (applies_comes edit) it memory
   row_comes (Raising plan) Moved it memory = came_is w c told now next unfailed Moved _ _ it.world it.call
-  row_comes (Creating plan) gave it memory = folder_comes [] (filling plan) _ (scratch_is (Unsynced []) w.folder now.folder) gave it
-  row_comes (Appending plan) gave it memory = folder_comes [] (filling (piece_written plan)) _ (scratch_is (Unsynced (scratch_bytes w.folder.scratch ++ next_piece plan.text)) w.folder now.folder) gave it
-  row_comes (SyncingScratch plan) gave it memory = folder_comes [] (Renaming plan) _ (scratch_is (Synced (scratch_bytes w.folder.scratch)) w.folder now.folder) gave it
-  row_comes (Renaming plan) gave it memory = folder_comes (plan.change ∷ []) (SyncingFolder (Changed (next_place w))) (renamed w.folder) (λ same. same) gave it
+  row_comes (Creating plan) gave it memory = folder_comes Creates LoosensScratch [] (filling plan) _ (scratch_is (Unsynced []) w.folder now.folder) gave it
+  row_comes (Appending plan) gave it memory = folder_comes (Appends (take 4096 plan.text.rest)) LoosensScratch [] (filling (piece_written plan)) _ (scratch_is (Unsynced (scratch_bytes w.folder.scratch ++ take 4096 plan.text.rest)) w.folder now.folder) gave it
+  row_comes (SyncingScratch plan) gave it memory = folder_comes SyncsScratch LoosensScratch [] (Renaming plan) _ (scratch_is (Synced (scratch_bytes w.folder.scratch)) w.folder now.folder) gave it
+  row_comes (Renaming plan) gave it memory = folder_comes Renames Keeps (plan.change ∷ []) (SyncingFolder (Changed (next_place w))) (renamed w.folder) (λ same. same) gave it
   row_comes (SyncingFolder ends) (Ended (Ok edition)) it memory =
       last_comes w c told now next unfailed (Ok edition) (synced_kinds (kept_edit ends)) (folder_synced w.folder) (λ same. same) it.1
       ∙ ap (λ (n : ℕ). ending w c (Ok n) (folder_synced w.folder) (synced_kinds (kept_edit ends))) it.0
@@ -216,9 +220,8 @@ module _ {V T M : Type 0} (r : Rules V T) (s : Store V M) (w : World V T) (c : C
   dead_comes (Ended (Err (error.Died place))) it = record { place = place; last = it.0; comes = came_is w c told now next unfailed (Ended (Err (error.Died place))) w (ended c) it.1 it.2 }
   dead_comes other it = absurd it
 
-  dying_comes : (gave : Gave) → EndsDying (turn_to w c now next) gave → came gave now next ≡ dying r s.limits w c
-  dying_comes (Ended (Err (error.Died place))) it =
-      came_is w c told now next unfailed (Ended (Err (error.Died place))) _ _ it.1.world it.1.call ∙ ap (λ (n : ℕ). record (dying r s.limits w c) { gave = Ended (Err (error.Died n)) }) it.0
+  dying_comes : (gave : Gave) → EndsDying (turn_to w c now next) gave → DyingComes r s.limits w c (came gave now next)
+  dying_comes (Ended (Err (error.Died place))) it = record { gave = ap (λ (n : ℕ). Ended (Err (error.Died n))) it.0; dies = it.1 }
   dying_comes other it = absurd it
 
   pub turn_comes : (gone died dies : Bool) (gave : Gave) → TurnBy r s gone died dies (turn_to w c now next) gave → HasMemory gave → TurnComes r s.limits w c gone died dies (came gave now next)
