@@ -1,5 +1,5 @@
 -- A run leads to one end.
-use Rattle.std.proofs.Common.{◌≡◌, ◌∙◌, inl, inr, ◌+◌, ℕ, suc, zero, true, false, List, [], ◌∷◌, length, slice_set, refl, sym, ap, subst}
+use Rattle.std.proofs.Common.{◌≡◌, ◌∙◌, inl, inr, ◌+◌, ℕ, suc, zero, List, [], ◌∷◌, length, slice_set, refl, sym, ap, subst}
 use Rattle.store_traits.specs.declared.ids.NodeId.{NodeId}
 use Rattle.shelf.specs.declared.store.Store.{Store}
 use Rattle.shelf.specs.World.{Rules, World}

@@ -11,7 +11,6 @@ use Rattle.prefs_text.specs.declared.seen.AnswerLineSeen.{AnswerLineSeen}
 use Rattle.prefs_text.specs.declared.seen.AnswerSeen.{AnswerSeen}
 use Rattle.prefs_text.specs.declared.seen.AnswerSeen.TheVariants as seen
 use Rattle.prefs_text.specs.EntryText.{PrefEntry}
-use Rattle.shelf.specs.declared.store.Limits.{Limits}
 use Rattle.shelf.specs.declared.store.Store.{Store}
 use Rattle.shelf.specs.World.{World}
 use Rattle.shelf.proofs.ReadingLemmas.{one_base}
@@ -20,9 +19,7 @@ use Rattle.script_lang.specs.declared.script.Script.{Script}
 use Rattle.script_lang.specs.declared.session_plan.SessionPlan.{SessionPlan}
 use Rattle.script_lang.specs.declared.transcript.Transcript.{Transcript}
 use Rattle.script_lang.specs.Chronicle.{Basis, chapter_of, first_beginning, store_of}
-use Rattle.script_lang.specs.Good.{file_seen}
 use Rattle.script_lang.specs.TranscriptView.{SessionSeen}
-use Rattle.replay_run.specs.AlikeStores.{IsAlike}
 use Rattle.replay_run.specs.Order.{Order}
 use Rattle.replay_run.specs.Run.{IsRun, world_of}
 use Rattle.replay_run.specs.Scene.{Answered, Scene}

@@ -1,5 +1,5 @@
 -- Two turns of a call in one world come to one outcome, where memory lasts and no call of the folder fails.
-use Rattle.std.proofs.Common.{◌≡◌, ◌∙◌, ◌⊎◌, inl, inr, ◌≤◌, ◌<◌, ℕ, Bool, true, false, List, length, Option, Some, unwrap_or, refl, sym, ap, subst, arith, Result, Ok, Err}
+use Rattle.std.proofs.Common.{◌≡◌, ◌∙◌, ◌⊎◌, inl, inr, ◌≤◌, ◌<◌, ℕ, Bool, true, false, List, length, Option, Some, unwrap_or, refl, sym, ap, subst, arith, Result, Err}
 use Rattle.store_traits.specs.declared.applied.Applied.{Applied}
 use Rattle.store_traits.specs.declared.applied.Applied.TheVariants as applied
 use Rattle.store_traits.specs.declared.update_error.UpdateError.{UpdateError}
@@ -11,7 +11,7 @@ use Rattle.shelf.specs.declared.progress.Progress.TheVariants.{Ended}
 use Rattle.shelf.specs.declared.store.Limits.{Limits}
 use Rattle.shelf.specs.declared.store.Store.{Store}
 use Rattle.shelf.specs.Calls.{At, Call, First, ReadingFirst, Reading, Gone, ended, is_gone}
-use Rattle.shelf.specs.Turn.{Turn, begin, dies_now, has_died_by}
+use Rattle.shelf.specs.Turn.{Turn, dies_now, has_died_by}
 use Rattle.shelf.specs.World.{Rules, World}
 use Rattle.shelf.proofs.ReadingLemmas.{one_base}
 use Rattle.replay_run.proofs.Outcomes.{Outcome, came, turn_to}

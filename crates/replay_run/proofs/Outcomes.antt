@@ -1,5 +1,5 @@
 -- What comes of a turn, where the folder tells what it holds and no call of it fails.
-use Rattle.std.proofs.Common.{◌≡◌, ◌∙◌, ◌≤◌, ℕ, true, List, [], length, refl, ap, Option, Result}
+use Rattle.std.proofs.Common.{◌≡◌, ◌∙◌, ℕ, true, List, [], length, ap, Option, Result}
 use Rattle.store_traits.specs.declared.ids.CallId.{CallId}
 use Rattle.store_traits.specs.declared.update_error.UpdateError.{UpdateError}
 use Rattle.folder_disk.specs.Contents.{Contents, ChangesScratch, Scratch, Kept}

@@ -102,7 +102,7 @@ module _ {V T M : Type 0} (r : Rules V T) (s : Store V M) (homes : List NodeId) 
       does_serve done place (Update edit) old new it served = adds_serves done place edit old new it served
       does_serve done place (Go steps) old new it served = goes_more done place steps new (times_serves done place steps old new it served)
 
-  start_serves : AreServed homes [] (start_of s homes)
+  start_serves : AreServed {V = V} {T = T} homes [] (start_of s homes)
   start_serves =
       λ place client found.
       let it = new_from 0 homes place client found in
