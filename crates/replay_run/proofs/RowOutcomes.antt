@@ -135,13 +135,15 @@ module _ {V T M : Type 0} (r : Rules V T) (s : Store V M) (w : World V T) (c : C
         | inl most ↦ inl (subst (λ (n : ℕ). s.limits.history.entries ≤ n) full.entries_now most)
         | inr most ↦ inr (subst (λ (n : ℕ). s.limits.history.weight ≤ n) full.weight_now most)
       ] in
-      inr
-      (is_free it.0,
-        inr
-        (bound,
+      inr (
+        is_free it.0,
+        inr (
+          bound,
           stops_comes w c told now next unfailed (Err (error.HistoryFull entries weight)) it.2
-          ∙ (ap (λ (n : ℕ). ending w c (Err (error.HistoryFull n weight)) w.folder []) full.entries_now
-          ∙ ap (λ (n : ℕ). ending w c (Err (error.HistoryFull (length w.history) n)) w.folder []) full.weight_now)))
+              ∙ (ap (λ (n : ℕ). ending w c (Err (error.HistoryFull n weight)) w.folder []) full.entries_now
+              ∙ ap (λ (n : ℕ). ending w c (Err (error.HistoryFull (length w.history) n)) w.folder []) full.weight_now),
+        ),
+      )
   lock_comes edit (Ended (Err error.NoMemory)) it memory = absurd (memory refl)
   lock_comes edit other it memory = absurd it
 
