@@ -1,5 +1,5 @@
 -- Two turns of a call in one world come to one outcome, where memory lasts and no call of the folder fails.
-use Rattle.std.proofs.Common.{◌≡◌, ◌∙◌, ◌⊎◌, inl, inr, ◌≤◌, ◌<◌, ℕ, Bool, true, false, List, length, Option, Some, unwrap_or, refl, sym, ap, subst, arith, Result, Err}
+use Rattle.std.proofs.Common.{◌≡◌, ◌∙◌, ◌⊎◌, inl, inr, ◌≤◌, ◌<◌, ℕ, Bool, true, false, List, length, Some, unwrap_or, refl, sym, ap, subst, arith, Result, Err}
 use Rattle.store_traits.specs.declared.applied.Applied.{Applied}
 use Rattle.store_traits.specs.declared.applied.Applied.TheVariants as applied
 use Rattle.store_traits.specs.declared.update_error.UpdateError.{UpdateError}
@@ -14,8 +14,12 @@ use Rattle.shelf.specs.Calls.{At, Call, First, ReadingFirst, Reading, Gone, ende
 use Rattle.shelf.specs.Turn.{Turn, dies_now, has_died_by}
 use Rattle.shelf.specs.World.{Rules, World}
 use Rattle.shelf.proofs.ReadingLemmas.{one_base}
+use Rattle.replay_run.proofs.LineLemmas.{one_of}
 use Rattle.replay_run.proofs.Outcomes.{Outcome, came, turn_to}
-use Rattle.replay_run.proofs.RowOutcomes.{AppliedComes, ComesOf, DeadComes, DyingComes, HasNone, HasSpace, IsOwned, LockComes, ReadComes, RowComes, SizedComes, TurnComes, turn_comes}
+use Rattle.replay_run.proofs.RowOutcomes.{AppliedComes, ComesOf, DeadComes, DyingComes, HasNone, HasSpace, LockComes, ReadComes, RowComes, SizedComes, TurnComes, turn_comes}
+
+never_both : {P : Type 0} → P → (P → ⊥) → ⊥
+never_both is not = not is
 
 -- where two causes never stand together, what comes of one of them is one
 either_once : {P Q A B A' B' G : Type 0} → (P → Q → ⊥) → (A → A' → G) → (B → B' → G) → (P × A) ⊎ (Q × B) → (P × A') ⊎ (Q × B') → G
@@ -38,11 +42,8 @@ module _ {V T : Type 0} (r : Rules V T) (read_once : (bytes : List ℕ) (a b : V
   space_or_none space (inl most) = omega (arith, space.0, most)
   space_or_none space (inr most) = omega (arith, space.1, most)
 
-  owned_or_free : IsOwned r limits w c → (IsOwned r limits w c → ⊥) → ⊥
-  owned_or_free owned free = free owned
-
   lock_once : (edit : T) → LockComes r limits w c edit x → LockComes r limits w c edit y → AreOne w x y
-  lock_once edit a b = either_once owned_or_free (λ is also. both_are w is also refl) (either_once space_or_none (λ is also. both_are w is also refl) (λ is also. both_are w is also refl)) a b
+  lock_once edit a b = either_once never_both (λ is also. both_are w is also refl) (either_once space_or_none (λ is also. both_are w is also refl) (λ is also. both_are w is also refl)) a b
 
   read_comes_once : (Then : V → Outcome V T → Type 0) → ((value : V) → Then value x → Then value y → AreOne w x y) → ReadComes r limits w c Then x → ReadComes r limits w c Then y → AreOne w x y
   read_comes_once Then then_once a b =
@@ -62,7 +63,7 @@ module _ {V T : Type 0} (r : Rules V T) (read_once : (bytes : List ℕ) (a b : V
 
   applied_once : (edit : T) (value : V) (made : Applied V) → AppliedComes r limits w c edit value made x → AppliedComes r limits w c edit value made y → AreOne w x y
   applied_once edit value (applied.Refused code) is also = both_are w is also refl
-  applied_once edit value (applied.Changed new) a b = either_once (λ same differs. differs same) (λ is also. both_are w is also refl) (sized_once edit new) a b
+  applied_once edit value (applied.Changed new) a b = either_once never_both (λ is also. both_are w is also refl) (sized_once edit new) a b
 
   row_once : (at : At V T) → RowComes r limits w c at x → RowComes r limits w c at y → AreOne w x y
   row_once (First edit) a b = lock_once edit a b
@@ -71,12 +72,9 @@ module _ {V T : Type 0} (r : Rules V T) (read_once : (bytes : List ℕ) (a b : V
   row_once Gone a b = absurd a
   row_once at is also = both_are w is also refl
 
-  some_place : (a b : ℕ) → ◌≡◌ {A = Option ℕ} (Some a) (Some b) → a ≡ b
-  some_place a b same = cc
-
   dead_once : DeadComes r limits w c x → DeadComes r limits w c y → AreOne w x y
   dead_once a b =
-      let same : b.place ≡ a.place = some_place b.place a.place (sym b.last ∙ a.last) in
+      let same : b.place ≡ a.place = one_of b.place a.place (sym b.last ∙ a.last) in
       both_are w a.comes (b.comes ∙ ap (λ (place : ℕ). came (Ended (Err (error.Died place))) w (ended c)) same) refl
 
   dying_once : DyingComes r limits w c x → DyingComes r limits w c y → AreOne w x y

@@ -22,6 +22,9 @@ module _ {V T : Type 0} where
   abbrev pub came : Progress (Result ℕ UpdateError) → World V T → Call V T → Outcome V T
   came gave world call = record { gave = gave; world = world; call = call }
 
+  pub came_is : (gave : Progress (Result ℕ UpdateError)) {now world : World V T} {next call : Call V T} → now ≡ world → next ≡ call → came gave now next ≡ came gave world call
+  came_is gave {now = now} {world = world} {next = next} {call = call} is also = ap (λ (x : World V T). came gave x next) is ∙ ap (λ (x : Call V T). came gave world x) also
+
 -- a folder of which only the scratch file has changed
 pub scratch_is : (scratch : Scratch) (old new : Contents) → ChangesScratch scratch old new → new ≡ record old { scratch = scratch }
 scratch_is scratch old new it =
@@ -43,10 +46,10 @@ module _ {V T : Type 0} (w : World V T) (c : Call V T) where
   abbrev pub ending : Result ℕ UpdateError → Contents → List (KindSeen V T) → Outcome V T
   ending answer folder kinds = came (Ended answer) (record w { folder = folder; history = with_entries c.id kinds w.history; owner = freed c.id w.owner }) (ended c)
 
-  module _ (told : w.told ≡ true) (now : World V T) (next : Call V T) (unfailed : now.faults ≡ w.faults) where
-    pub came_is : (gave : Progress (Result ℕ UpdateError)) (world : World V T) (call : Call V T) → now ≡ world → next ≡ call → came gave now next ≡ came gave world call
-    came_is gave world call is also = ap (λ (x : World V T). came gave x next) is ∙ ap (λ (x : Call V T). came gave world x) also
+  pub stops_comes : (answer : Result ℕ UpdateError) {now : World V T} {next : Call V T} → Stops (turn_to now next) → came (Ended answer) now next ≡ ending answer w.folder []
+  stops_comes answer it = came_is (Ended answer) it.world it.call
 
+  module _ (told : w.told ≡ true) (now : World V T) (next : Call V T) (unfailed : now.faults ≡ w.faults) where
     -- the world behind a call of the folder that went well
     world_is : (list : List (EntrySeen V T)) (owner : Option CallId) (folder : Contents) → now ≡ record w { folder = now.folder; faults = now.faults; history = list; owner = owner } → now.folder ≡ folder
         → now ≡ record w { folder = folder; history = list; owner = owner }
@@ -56,18 +59,15 @@ module _ {V T : Type 0} (w : World V T) (c : Call V T) where
 
     pub does_comes : {Makes : Contents → Contents → Type 0} (kinds : List (KindSeen V T)) (at : At V T) (folder : Contents) → (Makes w.folder now.folder → now.folder ≡ folder) → Does (turn_to now next) Makes kinds at
         → came Moved now next ≡ going_on folder kinds at
-    does_comes kinds at folder makes it = came_is Moved _ _ (world_is (with_entries c.id kinds w.history) w.owner folder it.world (makes (it.folder told))) it.call
+    does_comes kinds at folder makes it = came_is Moved (world_is (with_entries c.id kinds w.history) w.owner folder it.world (makes (it.folder told))) it.call
 
     pub last_comes : {Makes : Contents → Contents → Type 0} (answer : Result ℕ UpdateError) (kinds : List (KindSeen V T)) (folder : Contents) → (Makes w.folder now.folder → now.folder ≡ folder) → DoesLast (turn_to now next) Makes kinds
         → came (Ended answer) now next ≡ ending answer folder kinds
-    last_comes answer kinds folder makes it = came_is (Ended answer) _ _ (world_is (with_entries c.id kinds w.history) (freed c.id w.owner) folder it.world (makes (it.folder told))) it.call
+    last_comes answer kinds folder makes it = came_is (Ended answer) (world_is (with_entries c.id kinds w.history) (freed c.id w.owner) folder it.world (makes (it.folder told))) it.call
 
     -- main was read, and the call ends
     pub read_ends : (answer : Result ℕ UpdateError) → DoesLast (turn_to now next) Keeps [] → came (Ended answer) now next ≡ ending answer w.folder []
     read_ends answer it = last_comes answer [] w.folder (λ same. same) it
-
-    pub stops_comes : (answer : Result ℕ UpdateError) → Stops (turn_to now next) → came (Ended answer) now next ≡ ending answer w.folder []
-    stops_comes answer it = came_is (Ended answer) _ _ it.world it.call
 
     -- no call of the folder has failed
     pub fails_never : {Leaves : Contents → Contents → Type 0} → w.faults ≡ 0 → Fails (turn_to now next) Leaves → ⊥

@@ -126,8 +126,8 @@ module _ {V T M : Type 0} (r : Rules V T) (s : Store V M) (w : World V T) (c : C
   is_free free it = let owned = it.owned in free (rw owned it.other)
 
   lock_comes : (edit : T) (gave : Gave) → LockRow r s (turn_to w c now next) edit gave → HasMemory gave → LockComes r s.limits w c edit (came gave now next)
-  lock_comes edit Blocked it memory = inl (is_owned w.owner refl it, came_is w c told now next unfailed Blocked w c it.world it.call)
-  lock_comes edit Moved it memory = inr (is_free it.free, inl ((it.bounds.entries, it.bounds.weight), came_is w c told now next unfailed Moved _ _ it.world it.call))
+  lock_comes edit Blocked it memory = inl (is_owned w.owner refl it, came_is Blocked it.world it.call)
+  lock_comes edit Moved it memory = inr (is_free it.free, inl ((it.bounds.entries, it.bounds.weight), came_is Moved it.world it.call))
   lock_comes edit (Ended (Err (error.HistoryFull entries weight))) it memory =
       let full = it.1 in
       let bound : HasNone r s.limits w c =
@@ -139,7 +139,7 @@ module _ {V T M : Type 0} (r : Rules V T) (s : Store V M) (w : World V T) (c : C
         is_free it.0,
         inr (
           bound,
-          stops_comes w c told now next unfailed (Err (error.HistoryFull entries weight)) it.2
+          stops_comes w c (Err (error.HistoryFull entries weight)) it.2
               ∙ (ap (λ (n : ℕ). ending w c (Err (error.HistoryFull n weight)) w.folder []) full.entries_now
               ∙ ap (λ (n : ℕ). ending w c (Err (error.HistoryFull (length w.history) n)) w.folder []) full.weight_now),
         ),
@@ -203,11 +203,11 @@ module _ {V T M : Type 0} (r : Rules V T) (s : Store V M) (w : World V T) (c : C
   row_comes : (at : At V T) (gave : Gave) → Row r s at (turn_to w c now next) gave → HasMemory gave → RowComes r s.limits w c at (came gave now next)
   row_comes (First edit) gave it memory = lock_comes edit gave it memory
   row_comes (ReadingFirst edit) gave it memory = read_comes (ToMigrations r s (turn_to w c now next) edit) (λ value o. o ≡ going_on w c w.folder [] (Migrating edit value)) gave (first_comes edit) it memory
-  row_comes (Migrating edit value) Moved it memory = came_is w c told now next unfailed Moved _ _ it.1.world it.1.call
+  row_comes (Migrating edit value) Moved it memory = came_is Moved it.1.world it.1.call
   row_comes (Migrating edit value) (Ended (Err error.NoMemory)) it memory = absurd (memory refl)
-  row_comes (Finishing edit) Moved it memory = came_is w c told now next unfailed Moved _ _ it.world it.call
+  row_comes (Finishing edit) Moved it memory = came_is Moved it.world it.call
   row_comes (Reading edit) gave it memory = read_comes (Applies r s (turn_to w c now next) edit) (λ value o. AppliedComes r s.limits w c edit value (r.meanings.after edit value) o) gave (applies_comes edit) it memory
-  row_comes (Raising plan) Moved it memory = came_is w c told now next unfailed Moved _ _ it.world it.call
+  row_comes (Raising plan) Moved it memory = came_is Moved it.world it.call
   row_comes (Creating plan) gave it memory = folder_comes Creates LoosensScratch [] (filling plan) _ (scratch_is (Unsynced []) w.folder now.folder) gave it
   row_comes (Appending plan) gave it memory = folder_comes (Appends (take 4096 plan.text.rest)) LoosensScratch [] (filling (piece_written plan)) _ (scratch_is (Unsynced (scratch_bytes w.folder.scratch ++ take 4096 plan.text.rest)) w.folder now.folder) gave it
   row_comes (SyncingScratch plan) gave it memory = folder_comes SyncsScratch LoosensScratch [] (Renaming plan) _ (scratch_is (Synced (scratch_bytes w.folder.scratch)) w.folder now.folder) gave it
@@ -219,7 +219,7 @@ module _ {V T M : Type 0} (r : Rules V T) (s : Store V M) (w : World V T) (c : C
   row_comes at other it memory = absurd it
 
   dead_comes : (gave : Gave) → EndsDead (turn_to w c now next) gave → DeadComes r s.limits w c (came gave now next)
-  dead_comes (Ended (Err (error.Died place))) it = record { place = place; last = it.0; comes = came_is w c told now next unfailed (Ended (Err (error.Died place))) w (ended c) it.1 it.2 }
+  dead_comes (Ended (Err (error.Died place))) it = record { place = place; last = it.0; comes = came_is (Ended (Err (error.Died place))) it.1 it.2 }
   dead_comes other it = absurd it
 
   dying_comes : (gave : Gave) → EndsDying (turn_to w c now next) gave → DyingComes r s.limits w c (came gave now next)

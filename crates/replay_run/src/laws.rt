@@ -20,12 +20,12 @@ pub fn runs_are_good()
         → EndKeeps prefs_basis.rules run.played.store run.played.end → Good prefs_basis script transcript }
 {}
 
-/// A script has one run as far as its transcript tells: no two transcripts are of runs of it.
+/// A script comes to one transcript at most: the runs of it give the same, however many rounds they take.
 pub fn scripts_have_one_run()
     ensures { (script : Script) (one other : Transcript) → Runs prefs_basis script one → Runs prefs_basis script other → one ≡ other }
 {}
 
-/// The world in which a run starts is one in which a session of the store begins.
+/// The world in which a run of a script starts is one in which a session of its store begins.
 pub fn runs_start_as_sessions_begin()
     ensures { (s : Store (List PrefPair) (Unit {0})) → Begins s (world_of {T = List EditStep} s) }
 {}
