@@ -12,11 +12,17 @@ pub mod GoodOrder
 pub mod GoodRun
 pub mod GoodSession
 pub mod LineLemmas
+pub mod OneRun
+pub mod OneStep
+pub mod OneTranscript
+pub mod OneTurn
 pub mod OpeningLemmas
+pub mod Outcomes
 pub mod OverLemmas
 pub mod OwnTurns
 pub mod PlayedRuns
 pub mod ReplacedClient
+pub mod RowOutcomes
 pub mod RunClients
 pub mod RunLemmas
 pub mod ServedOrders

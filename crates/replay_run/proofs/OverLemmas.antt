@@ -15,7 +15,7 @@ use Rattle.replay_run.specs.Step.{begin_next, has_work}
 use Rattle.replay_run.proofs.AnswerLemmas.{begun_within}
 use Rattle.replay_run.proofs.LineLemmas.{nothing}
 
-none_at : {X : Type 0} (p : X → Bool) (xs : List X) (place : ℕ) (x : X) → list_any p xs ≡ false → slice_get xs place ≡ Some x → p x ≡ false
+pub none_at : {X : Type 0} (p : X → Bool) (xs : List X) (place : ℕ) (x : X) → list_any p xs ≡ false → slice_get xs place ≡ Some x → p x ≡ false
 none_at p [] place x none found = nothing x found
 none_at p (y ∷ xs) zero x none found = let same : y ≡ x = cc in ap p (sym same) ∙ (or_parts (p y) (list_any p xs) none).0
 none_at p (y ∷ xs) (suc place) x none found = none_at p xs place x (or_parts (p y) (list_any p xs) none).1 found

@@ -62,7 +62,7 @@ synced_smooth V call None = refl
 synced_smooth V call (Some edit) = refl
 
 -- a count that is 0 has not risen
-not_risen : (before now : ℕ) → now ≡ 0 → Rose before now → ⊥
+pub not_risen : (before now : ℕ) → now ≡ 0 → Rose before now → ⊥
 not_risen before now none (inl less) = omega (arith, none, less)
 not_risen before now none (inr most) = omega (arith, none, most)
 

@@ -15,14 +15,14 @@ use Rattle.shelf.specs.declared.store.Store.{Store}
 use Rattle.shelf.specs.Calls.{At, Call, Reading, ended}
 use Rattle.shelf.specs.Effects.{freed}
 use Rattle.shelf.specs.ExampleStore.{after}
-use Rattle.shelf.specs.ExampleTurns.{at_start, rules}
+use Rattle.shelf.specs.ExampleTurns.{rules}
 use Rattle.shelf.specs.Runs as shelf
 use Rattle.shelf.specs.Turn.{Turn, begin, dies_now, has_died_by}
-use Rattle.shelf.specs.World.{Begins, Turned, World}
+use Rattle.shelf.specs.World.{Turned, World}
 use Rattle.shelf.proofs.Bools.{both_parts, never, not_true}
 use Rattle.shelf.proofs.Played.{Run-computed, all_fine, scene_at}
 use Rattle.replay_run.specs.Order.{DoesAll, Does, Go, GoesTimes, Order, Task, Update, with_edit}
-use Rattle.replay_run.specs.Run.{GoesEach, IsOver, IsRun, Rounds, new_clients}
+use Rattle.replay_run.specs.Run.{GoesEach, IsOver, IsRun, Rounds, start_of}
 use Rattle.replay_run.specs.Scene.{Client, Scene}
 use Rattle.replay_run.specs.Step.{Goes, at_work, behind_turn}
 
@@ -295,23 +295,16 @@ module _ (s : Store ℕ (Unit {0})) (none : s.migrations ≡ []) where
       let both = both_parts (may_each_go 0 (length scene.clients) scene) (may_go_round rounds (each_gone 0 (length scene.clients) scene)) fine in
       (each_gone 0 (length scene.clients) scene, each_so 0 (length scene.clients) scene both.0, Rounds-computed rounds (each_gone 0 (length scene.clients) scene) both.1)
 
-  module _ (unfailed : s.folder.count ≡ 0) (homes : List NodeId) (orders : List (Order ExampleEdit)) (rounds : ℕ) where
+  module _ (homes : List NodeId) (orders : List (Order ExampleEdit)) (rounds : ℕ) where
     abbrev start : Scene ℕ ExampleEdit
-    start = record { world = at_start s; clients = new_clients homes }
+    start = start_of s homes
 
     abbrev ordered : Scene ℕ ExampleEdit
     ordered = all_done orders start
 
-    session_begins : Begins s (at_start s)
-    session_begins = record { main = λ told. refl; sections = refl; alone = λ told alone. refl; owner = refl; history = refl; deaths = refl; version = refl; faults = sym unfailed }
-
     pub IsRun-computed : may_do_all orders start ≡ true → may_go_round rounds ordered ≡ true → IsOver (rounds_gone rounds ordered) → IsRun rules s homes orders (rounds_gone rounds ordered)
     IsRun-computed fine goes_on over =
         record {
-          start = start;
-          begins = session_begins;
-          told = refl;
-          clients = refl;
           between = ordered;
           ordered = DoesAll-computed orders start fine;
           rounds = rounds;

@@ -7,7 +7,7 @@ use Rattle.store_traits.specs.declared.ids.NodeId.{NodeId}
 use Rattle.shelf.specs.declared.store.Store.{Store}
 use Rattle.shelf.specs.World.{Rules}
 use Rattle.replay_run.specs.Order.{Does, DoesAll, Go, GoesTimes, Order, Task, Update, with_edit}
-use Rattle.replay_run.specs.Run.{GoesEach, IsRun, Rounds, new_client}
+use Rattle.replay_run.specs.Run.{GoesEach, IsRun, Rounds, new_client, start_of}
 use Rattle.replay_run.specs.Scene.{Scene}
 use Rattle.replay_run.specs.Step.{Goes}
 
@@ -50,5 +50,4 @@ module _ {V T M : Type 0} (r : Rules V T) (s : Store V M) where
   pub run_clients : (homes : List NodeId) (orders : List (Order T)) (end : Scene V T) → IsRun r s homes orders end → length end.clients ≡ length homes
   run_clients homes orders end run =
       rounds_many run.rounds run.between end run.rest
-      ∙ (all_many orders run.start run.between run.ordered
-      ∙ (ap (λ cs. length cs) run.clients ∙ (length-map (enumerate_from 0 homes) (λ placed. new_client placed.0 placed.1) ∙ length-enumerate_from 0 homes)))
+      ∙ (all_many orders (start_of s homes) run.between run.ordered ∙ (length-map (enumerate_from 0 homes) (λ placed. new_client placed.0 placed.1) ∙ length-enumerate_from 0 homes))

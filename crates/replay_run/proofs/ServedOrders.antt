@@ -10,7 +10,7 @@ use Rattle.shelf.specs.declared.store.Store.{Store}
 use Rattle.shelf.specs.Calls.{Call}
 use Rattle.shelf.specs.World.{Rules}
 use Rattle.replay_run.specs.Order.{Adds, AreServed, Does, DoesAll, Go, GoesTimes, IsServed, Order, Task, Update, edits_for, task_edits, with_edit}
-use Rattle.replay_run.specs.Run.{GoesEach, IsRun, Rounds, new_clients}
+use Rattle.replay_run.specs.Run.{GoesEach, IsRun, Rounds, start_of}
 use Rattle.replay_run.specs.Scene.{Client, Scene}
 use Rattle.replay_run.specs.Step.{Goes, at_work, begin_next, behind_turn}
 use Rattle.replay_run.proofs.SetLemmas.{found_then}
@@ -102,11 +102,11 @@ module _ {V T M : Type 0} (r : Rules V T) (s : Store V M) (homes : List NodeId) 
       does_serve done place (Update edit) old new it served = adds_serves done place edit old new it served
       does_serve done place (Go steps) old new it served = goes_more done place steps new (times_serves done place steps old new it served)
 
-  start_serves : (start : Scene V T) → start.clients ≡ new_clients homes → AreServed homes [] start
-  start_serves start new =
+  start_serves : AreServed {V = V} {T = T} homes [] (start_of s homes)
+  start_serves =
       λ place client found.
-      let it = new_from 0 homes place client (rw new at found) in
+      let it = new_from 0 homes place client found in
       record { home = it.home ∙ ap (λ (x : Client V T). Some x.node) (sym it.is); edits = ap (λ (x : Client V T). x.edits) it.is }
 
   pub run_serves : (orders : List (Order T)) (end : Scene V T) → IsRun r s homes orders end → AreServed homes orders end
-  run_serves orders end run = rounds_serve orders run.rounds run.between end run.rest (all_serve [] orders run.start run.between run.ordered (start_serves run.start run.clients))
+  run_serves orders end run = rounds_serve orders run.rounds run.between end run.rest (all_serve [] orders (start_of s homes) run.between run.ordered start_serves)

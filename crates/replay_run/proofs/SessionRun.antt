@@ -32,10 +32,10 @@ use Rattle.script_lang.specs.TranscriptText.{SessionHasNames}
 use Rattle.script_lang.specs.TranscriptView.{SessionSeen}
 use Rattle.replay_run.specs.declared.stage.Stage.{Stage}
 use Rattle.replay_run.specs.AlikeStores.{IsAlike}
-use Rattle.replay_run.specs.Order.{AreServed}
+use Rattle.replay_run.specs.Order.{AreServed, DoesAll}
 use Rattle.replay_run.specs.PrefsBasis.{prefs_basis}
 use Rattle.replay_run.specs.Replays.{Replays}
-use Rattle.replay_run.specs.Run.{IsRun, Rounds, new_client, new_clients}
+use Rattle.replay_run.specs.Run.{IsRun, Rounds, new_client}
 use Rattle.replay_run.specs.Scene.{Scene}
 use Rattle.replay_run.specs.SceneKeeps.{IsOfCall, SceneKeeps, is_rough}
 use Rattle.replay_run.specs.ScriptRun.{Runs, Tells}
@@ -62,11 +62,11 @@ plan_runs script plan kept is =
     (subst (λ (p : SessionPlan). KeepsRuns script.names.clients p.lines) one kept.sessions.runs, ap (λ (p : SessionPlan). p.deaths) plain)
 
 -- each line is of a client that the session has
-pub lines_fit : (script : Script) (stage : Stage) (count : ℕ) (lines : List RunLine) → Keeps script → (scene_in stage).clients ≡ new_clients script.homes → length stage.clients.items ≡ count → All (KeepsRun script.names.clients) lines → All (CanFollow count) lines
-lines_fit script stage count lines kept new counted all =
+pub lines_fit : (script : Script) (stage : Stage) (count : ℕ) (lines : List RunLine) → Keeps script → IsOpened script stage → length stage.clients.items ≡ count → All (KeepsRun script.names.clients) lines → All (CanFollow count) lines
+lines_fit script stage count lines kept opened counted all =
     let homes : length stage.clients.items ≡ length script.homes =
     sym (length-map stage.clients.items (λ client. client_in stage.shelf client))
-    ∙ (ap (λ cs. length cs) new ∙ (length-map (enumerate_from 0 script.homes) (λ placed. new_client placed.0 placed.1) ∙ length-enumerate_from 0 script.homes)) in
+    ∙ (ap (λ (x : Scene (List PrefPair) (List EditStep)). length x.clients) opened.start ∙ (length-map (enumerate_from 0 script.homes) (λ placed. new_client placed.0 placed.1) ∙ length-enumerate_from 0 script.homes)) in
     let many : length script.names.clients ≡ count = sym kept.homes.one_each ∙ (sym homes ∙ counted) in
     All-weaker (KeepsRun script.names.clients) (CanFollow count) (λ line it. record { declared = subst (λ n. line.client.0 < n) many it.declared; act = it.act }) lines all
 
@@ -91,12 +91,8 @@ module _ (script : Script) (plan : SessionPlan) (told : SessionSeen) (start foll
   run : IsRun prefs_basis.rules store script.homes follows.orders last
   run =
       record {
-        start = scene_in start;
-        begins = opened.begins;
-        told = refl;
-        clients = opened.clients;
         between = scene_in followed;
-        ordered = follows.ordered;
+        ordered = subst (λ scene. DoesAll prefs_basis.rules store follows.orders scene (scene_in followed)) opened.start follows.ordered;
         rounds = finishes.rounds;
         rest = subst (λ s. Rounds prefs_basis.rules s finishes.rounds (scene_in followed) last) first_store finishes.rest;
         over = finishes.over;

@@ -1,10 +1,11 @@
 -- The shelf of a script's first session, and the session that begins with it.
-use Rattle.std.proofs.Common.{◌≡◌, ◌∙◌, ◌-◌, ◌<◌, ℕ, Bool, true, false, All, List, [], ◌∷◌, length, Option, Some, None, refl, sym, ap, subst, arith, if◌then◌else◌}
+use Rattle.std.proofs.Common.{◌≡◌, ◌∙◌, ◌<◌, ℕ, Bool, true, false, All, List, [], ◌∷◌, length, Option, Some, None, refl, sym, ap, subst, arith, if◌then◌else◌}
 use Rattle.std.proofs.lemmas.List.Elements.{All-weaker}
+use Rattle.store_traits.specs.declared.ids.CallId.{CallId}
 use Rattle.store_traits.specs.declared.ids.NodeId.{NodeId}
 use Rattle.folder_disk.specs.contracts.mem_folder.MemFolderFolder.TheImpl as folder
 use Rattle.folder_disk.specs.declared.mem_folder.MemFolder.{MemFolder}
-use Rattle.folder_disk.specs.Contents.{Contents, Images, Starts}
+use Rattle.folder_disk.specs.Contents.{Contents, Gone, Images, Kept, Scratch, Starts}
 use Rattle.folder_disk.specs.MainRead.{main_of}
 use Rattle.folder_disk.specs.MemFolder.{contents_of, fresh_contents, fresh_tally, tally_of}
 use Rattle.folder_disk.specs.Tally.{StartsTally, Tally, most_of}
@@ -23,7 +24,7 @@ use Rattle.shelf.specs.AddsNode.{is_among}
 use Rattle.shelf.specs.Base.{HasItsBase, ReadsAs}
 use Rattle.shelf.specs.Opening.{Opens}
 use Rattle.shelf.specs.ShelfSeen.{ShelfSeen, shelf_seen}
-use Rattle.shelf.specs.World.{Begins}
+use Rattle.shelf.specs.World.{World}
 use Rattle.node_core.specs.Views.{world_seen}
 use Rattle.script_lang.specs.declared.script.Script.{Script}
 use Rattle.script_lang.specs.Chronicle.{nodes_of}
@@ -32,7 +33,9 @@ use Rattle.replay_run.specs.declared.prefs_parts.PrefsParts.{PrefsParts}
 use Rattle.replay_run.specs.declared.stage.Stage.{Stage}
 use Rattle.replay_run.specs.NewClients.{AreNew}
 use Rattle.replay_run.specs.PrefsBasis.{prefs_basis}
-use Rattle.replay_run.specs.Run.{new_clients}
+use Rattle.replay_run.specs.Run.{new_clients, start_of, world_of}
+use Rattle.replay_run.specs.Scene.{Client, Scene}
+use Rattle.replay_run.specs.SceneKeeps.{SceneKeeps}
 use Rattle.replay_run.specs.ShelfOpens.{ShelfOpens, first_nodes, with_nodes}
 use Rattle.replay_run.specs.StageScene.{StageKeeps, scene_in}
 use Rattle.replay_run.specs.StageSteps.{IsOpened, IsStoreOf}
@@ -71,18 +74,32 @@ module _ (script : Script) (unreplaced : script.start.replace ≡ false) (shelf 
   alone_is : s.alone ≡ true
   alone_is = (opens.alone refl).1 kept_alone
 
-  begins : Begins s (world_in shelf)
-  begins =
-      record {
-        main = λ told. starts.main ∙ sym (opens.main told);
-        sections = refl;
-        alone = λ told alone. starts.kept ∙ (kept_alone ∙ ap (λ (main : Option (List ℕ)). Images (main ∷ [])) (sym (opens.main told)));
-        owner = opens.owner;
-        history = opens.list;
-        deaths = refl;
-        version = ap (λ (list : List (EntrySeen Value Change)). raises_of list) opens.list ∙ no_raise;
-        faults = tallies.count ∙ sym opens.count;
-      }
+  -- main stands alone there, as it did in the new folder
+  folder_is : contents_of shelf.folder ≡ fresh_contents s.main
+  folder_is =
+      let now : Contents = contents_of shelf.folder in
+      let main : now.main ≡ s.main = starts.main ∙ sym (opens.main refl) in
+      let scratch : now.scratch ≡ Gone = starts.scratch ∙ ap (λ (c : Contents). c.scratch) contents in
+      let kept : now.kept ≡ Images (s.main ∷ []) = starts.kept ∙ (kept_alone ∙ ap (λ (main : Option (List ℕ)). Images (main ∷ [])) (sym (opens.main refl))) in
+      let first : now.first ≡ s.main = starts.first ∙ sym (opens.main refl) in
+      let alone : now.alone ≡ true = starts.alone.1 kept_alone in
+      ap (λ (x : Option (List ℕ)). record now { main = x }) main
+      ∙ (ap (λ (x : Scratch). record now { main = s.main; scratch = x }) scratch
+      ∙ (ap (λ (x : Kept). record now { main = s.main; scratch = Gone; kept = x }) kept
+      ∙ (ap (λ (x : Option (List ℕ)). record { main = s.main; scratch = Gone; kept = Images (s.main ∷ []); first = x; alone = now.alone }) first
+      ∙ ap (λ (x : Bool). record (fresh_contents s.main) { alone = x }) alone)))
+
+  world_starts : world_in shelf ≡ world_of s
+  world_starts =
+      let now : World Value Change = world_in shelf in
+      let with_parts : Contents → Option CallId → List (EntrySeen Value Change) → ℕ → ℕ → World Value Change =
+      λ folder owner list version faults. record { told = true; folder = folder; sections = []; owner = owner; history = list; deaths = []; version = version; faults = faults } in
+      let version : now.version ≡ 0 = ap (λ (list : List (EntrySeen Value Change)). raises_of list) opens.list ∙ no_raise in
+      ap (λ (x : Contents). with_parts x now.owner now.history now.version now.faults) folder_is
+      ∙ (ap (λ (x : Option CallId). with_parts (fresh_contents s.main) x now.history now.version now.faults) opens.owner
+      ∙ (ap (λ (x : List (EntrySeen Value Change)). with_parts (fresh_contents s.main) None x now.version now.faults) opens.list
+      ∙ (ap (λ (x : ℕ). with_parts (fresh_contents s.main) None [] x now.faults) version
+      ∙ ap (λ (x : ℕ). with_parts (fresh_contents s.main) None [] 0 x) (tallies.count ∙ sym opens.count))))
 
   based : HasItsBase Reads [] s
   based =
@@ -126,7 +143,7 @@ module _ (script : Script) (unreplaced : script.start.replace ≡ false) (shelf 
   pub shelf_opens : ShelfOpens prefs_basis script shelf
   shelf_opens =
       record {
-        begins = begins;
+        starts = world_starts;
         base = based;
         count = count_is;
         spare = tallies.most refl ∙ ap (λ (t : Tally). most_of t.count t.due) tally;
@@ -140,15 +157,12 @@ module _ (script : Script) (stage : Stage) (first : SettingsShelf) (count : ℕ)
   seen : shelf_seen stage.shelf ≡ with_nodes (shelf_seen first) (nodes_of script)
   seen = added ∙ ap (λ (nodes : List NodeId). with_nodes (shelf_seen first) nodes) (ap first_nodes counted ∙ sym (nodes_numbered 0 script.names.nodes))
 
-  begins_now : Begins (store_in stage.shelf) (world_in stage.shelf)
-  begins_now =
-      let b = opens.begins in
-      let there : Begins (with_nodes (shelf_seen first) (nodes_of script)).store (world_seen folder.ghosts (with_nodes (shelf_seen first) (nodes_of script))) =
-      record { main = b.main; sections = b.sections; alone = b.alone; owner = b.owner; history = b.history; deaths = b.deaths; version = b.version; faults = b.faults } in
-      subst (λ (s : Seen). Begins s.store (world_seen folder.ghosts s)) (sym seen) there
-
-  clients_are : (scene_in stage).clients ≡ new_clients script.homes
-  clients_are = all_rest stage.shelf stage.clients.items new.rest ∙ new.seen
+  starts_now : scene_in stage ≡ start_of (store_in stage.shelf) script.homes
+  starts_now =
+      let world : world_in stage.shelf ≡ world_of (store_in stage.shelf) = subst (λ (s : Seen). world_seen folder.ghosts s ≡ world_of s.store) (sym seen) opens.starts in
+      let clients : (scene_in stage).clients ≡ new_clients script.homes = all_rest stage.shelf stage.clients.items new.rest ∙ new.seen in
+      ap (λ (w : World Value Change). record { world = w; clients = (scene_in stage).clients }) world
+      ∙ ap (λ (cs : List (Client Value Change)). record { world = world_of (store_in stage.shelf); clients = cs }) clients
 
   at_home : All (λ (home : NodeId). is_among home (store_in stage.shelf).nodes ≡ true) script.homes
   at_home =
@@ -160,9 +174,11 @@ module _ (script : Script) (stage : Stage) (first : SettingsShelf) (count : ℕ)
   stage_keeps : StageKeeps stage
   stage_keeps =
       record {
-        scene = start_keeps (rules_in stage.shelf) (store_in stage.shelf) script.homes (scene_in stage) begins_now refl (ap (λ (s : Seen). s.store.folder.count) seen ∙ opens.count) clients_are;
+        scene =
+            subst (λ (scene : Scene Value Change). SceneKeeps (rules_in stage.shelf) (store_in stage.shelf) scene) (sym starts_now)
+            (start_keeps (rules_in stage.shelf) (store_in stage.shelf) script.homes refl (ap (λ (s : Seen). s.store.folder.count) seen ∙ opens.count));
         spare = ap (λ (s : Seen). s.store.folder.most) seen ∙ opens.spare;
-        number = unused ∙ sym begins_now.version;
+        number = unused ∙ sym (ap (λ (scene : Scene Value Change). scene.world.version) starts_now);
         nodes = homes_are (λ (home : NodeId). is_among home (store_in stage.shelf).nodes ≡ true) stage.clients.items script.homes new.seen at_home;
         equipped = all_equipped stage.shelf stage.clients.items new.rest;
       }
@@ -170,8 +186,7 @@ module _ (script : Script) (stage : Stage) (first : SettingsShelf) (count : ℕ)
   pub is_opened : IsOpened script stage
   is_opened =
       record {
-        begins = begins_now;
+        start = starts_now;
         store = subst (λ (s : Seen). IsStoreOf prefs_basis script s.store) (sym seen) opens.store;
-        clients = clients_are;
         keeps = stage_keeps;
       }

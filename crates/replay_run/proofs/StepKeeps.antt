@@ -7,7 +7,7 @@ use Rattle.shelf.specs.declared.store.Store.{Store}
 use Rattle.shelf.specs.World.{Begins, Rules}
 use Rattle.replay_run.specs.ClientKeeps.{KeepsClient}
 use Rattle.replay_run.specs.Order.{Adds}
-use Rattle.replay_run.specs.Run.{new_client, new_clients}
+use Rattle.replay_run.specs.Run.{new_client, new_clients, start_of, world_of}
 use Rattle.replay_run.specs.Scene.{Client, Scene}
 use Rattle.replay_run.specs.SceneKeeps.{IsOfCall, SceneKeeps, ShelfKeeps}
 use Rattle.replay_run.specs.Step.{Goes, Steps, at_work, behind_turn}
@@ -41,6 +41,10 @@ module _ {V T : Type 0} where
       let same : first + 1 + place ≡ first + suc place = omega arith in
       record { node = rest.node; home = rest.home; is = rest.is ∙ ap (λ n. new_client n rest.node) same }
 
+-- a run starts as sessions of the store begin
+pub starts_begin : {V T M : Type 0} (s : Store V M) → Begins s (world_of {V = V} {T = T} s)
+starts_begin s = record { main = λ told. refl; sections = refl; alone = λ told alone. refl; owner = refl; history = refl; deaths = refl; version = refl; faults = refl }
+
 module _ {V T M : Type 0} (r : Rules V T) (s : Store V M) where
   -- the scene keeps this from step to step
   pub steps_keep : (place : ℕ) (old new : Scene V T) → Steps r s place old new → ShelfKeeps r s old.world → SceneKeeps r s old → SceneKeeps r s new
@@ -64,20 +68,20 @@ module _ {V T M : Type 0} (r : Rules V T) (s : Store V M) where
   pub adding_keeps : (place : ℕ) (edit : T) (old new : Scene V T) → Adds place edit old new → SceneKeeps r s old → SceneKeeps r s new
   adding_keeps place edit old new it keeps = subst (λ scene. SceneKeeps r s scene) (sym it.now) (adds_keeps r s old place it.client it.was keeps edit)
 
-  -- a session in which no death is planned, and whose folder has not failed, begins so
-  pub start_keeps : (homes : List NodeId) (start : Scene V T) → Begins s start.world → s.deaths ≡ [] → s.folder.count ≡ 0 → start.clients ≡ new_clients homes → SceneKeeps r s start
-  start_keeps homes start begins unplanned unfailed new =
+  -- where no death is planned, and the folder has not failed, a session starts so
+  pub start_keeps : (homes : List NodeId) → s.deaths ≡ [] → s.folder.count ≡ 0 → SceneKeeps r s (start_of s homes)
+  start_keeps homes unplanned unfailed =
       record {
-        clients = λ place client found. keeps_new place client (new_from 0 homes place client (rw new at found));
-        entries = rw begins.history (All-nil (IsOfCall start.clients));
-        owner = rw begins.owner tt;
-        alive = rw begins.history refl;
-        unplanned = begins.deaths ∙ unplanned;
-        unfailed = begins.faults ∙ unfailed;
-        smooth = rw begins.history refl;
+        clients = λ place client found. keeps_new place client (new_from 0 homes place client found);
+        entries = All-nil (IsOfCall (new_clients homes));
+        owner = tt;
+        alive = refl;
+        unplanned = unplanned;
+        unfailed = unfailed;
+        smooth = refl;
       }
     where
-      keeps_new : (place : ℕ) (client : Client V T) → IsNew homes place (0 + place) client → KeepsClient r s place start.world client
+      keeps_new : (place : ℕ) (client : Client V T) → IsNew homes place (0 + place) client → KeepsClient r s place (world_of s) client
       keeps_new place client it =
           rw it.is
           (record {

@@ -2,8 +2,9 @@
 use Rattle.std.specs.Prelude.{◌≡◌, ℕ, suc, zero, ◌+◌, true, false, List, [], length, map, None}
 use Rattle.std.specs.List.{enumerate_from, list_any}
 use Rattle.store_traits.specs.declared.ids.NodeId.{NodeId}
+use Rattle.folder_disk.specs.MemFolder.{fresh_contents}
 use Rattle.shelf.specs.declared.store.Store.{Store}
-use Rattle.shelf.specs.World.{Begins, Rules}
+use Rattle.shelf.specs.World.{Rules, World}
 use Rattle.replay_run.specs.Order.{DoesAll, Order}
 use Rattle.replay_run.specs.Scene.{Client, Scene}
 use Rattle.replay_run.specs.Step.{Goes, has_work}
@@ -15,6 +16,14 @@ module _ {V T : Type 0} where
 
   abbrev pub new_clients : List NodeId → List (Client V T)
   new_clients homes = map (λ placed. new_client placed.0 placed.1) (enumerate_from 0 homes)
+
+  -- the world in which a session of the store starts: the folder tells what it holds, which is main alone, and nothing has happened yet
+  abbrev pub world_of : {M : Type 0} → Store V M → World V T
+  world_of s = record { told = true; folder = fresh_contents s.main; sections = s.sections; owner = None; history = []; deaths = s.deaths; version = 0; faults = s.folder.count }
+
+  -- the scene in which it starts with clients of these nodes
+  abbrev pub start_of : {M : Type 0} → Store V M → List NodeId → Scene V T
+  start_of s homes = record { world = world_of s; clients = new_clients homes }
 
   -- nobody has anything to do
   abbrev pub IsOver : Scene V T → Type 0
@@ -36,12 +45,8 @@ module _ {V T M : Type 0} (r : Rules V T) (s : Store V M) where
 
   -- clients of these nodes follow the orders in a session of the store, and go on until nobody has anything to do
   pub record IsRun (homes : List NodeId) (orders : List (Order T)) (end : Scene V T) : Type 0 where
-    pub start : Scene V T
-    pub begins : Begins s start.world
-    pub told : start.world.told ≡ true
-    pub clients : start.clients ≡ new_clients homes
     pub between : Scene V T
-    pub ordered : DoesAll r s orders start between
+    pub ordered : DoesAll r s orders (start_of s homes) between
     pub rounds : ℕ
     pub rest : Rounds rounds between end
     pub over : IsOver end

@@ -10,10 +10,10 @@ use Rattle.prefs_proto.specs.declared.prefs_codec.PrefsCodec.{PrefsCodec}
 use Rattle.shelf.specs.declared.shelf.Shelf.{Shelf}
 use Rattle.shelf.specs.Base.{HasItsBase}
 use Rattle.shelf.specs.ShelfSeen.{ShelfSeen}
-use Rattle.shelf.specs.World.{Begins}
 use Rattle.script_lang.specs.declared.script.Script.{Script}
 use Rattle.script_lang.specs.Chronicle.{Basis, nodes_of}
 use Rattle.replay_run.specs.declared.prefs_parts.PrefsParts.{PrefsParts}
+use Rattle.replay_run.specs.Run.{world_of}
 use Rattle.replay_run.specs.StageSteps.{IsStoreOf}
 use Rattle.replay_run.specs.StageView.{Change, Value, store_in, world_in}
 
@@ -28,7 +28,7 @@ with_nodes s nodes = record s { store = record s.store { nodes = nodes } }
 module _ {c : codec_trait.Ghosts PrefsCodec Value} {t : transform_trait.Ghosts Change Value} {f : folder_trait.Ghosts MemFolder} where
   -- nothing has happened yet, no call of the folder is to fail, and only the nodes are missing
   pub record ShelfOpens (b : Basis) (script : Script) (shelf : Shelf (PrefsParts MemFolder) PrefsCodec Change MemFolder Value c t f) : Type 0 where
-    pub begins : Begins (store_in shelf) (world_in shelf)
+    pub starts : world_in shelf ≡ world_of (store_in shelf)
     pub base : HasItsBase b.rules.reads b.rules.absent (store_in shelf)
     pub count : (store_in shelf).folder.count ≡ 0
     pub spare : (store_in shelf).folder.most ≡ Some 0

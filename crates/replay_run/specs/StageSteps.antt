@@ -2,7 +2,7 @@
 use Rattle.std.specs.Prelude.{◌≡◌, ◌<◌, ℕ, List, [], map, Some}
 use Rattle.prefs_edit.specs.declared.edit_step.EditStep.{EditStep}
 use Rattle.shelf.specs.declared.store.Store.{Store}
-use Rattle.shelf.specs.World.{Begins, Rules}
+use Rattle.shelf.specs.World.{Rules}
 use Rattle.script_lang.specs.declared.run_line.RunLine.{RunLine}
 use Rattle.script_lang.specs.declared.script.Script.{Script}
 use Rattle.script_lang.specs.declared.session_plan.SessionPlan.{SessionPlan}
@@ -14,21 +14,20 @@ use Rattle.replay_run.specs.declared.stage.Stage.{Stage}
 use Rattle.replay_run.specs.AlikeStores.{IsAlike}
 use Rattle.replay_run.specs.Order.{DoesAll, Order}
 use Rattle.replay_run.specs.PrefsBasis.{prefs_basis}
-use Rattle.replay_run.specs.Run.{IsOver, Rounds, new_clients}
+use Rattle.replay_run.specs.Run.{IsOver, Rounds, start_of}
 use Rattle.replay_run.specs.Scene.{Scene}
 use Rattle.replay_run.specs.ScriptRun.{order_of}
 use Rattle.replay_run.specs.StageScene.{StageKeeps, scene_in}
-use Rattle.replay_run.specs.StageView.{store_in, world_in}
+use Rattle.replay_run.specs.StageView.{store_in}
 
 -- in a session of the script in which no death is planned, and whose base is this store's, this is the store
 abbrev pub IsStoreOf : Basis → Script → Store (List PrefPair) (Unit {0}) → Type 0
 IsStoreOf b script store = (plan : SessionPlan) (told : SessionSeen) → plan.deaths ≡ [] → told.base ≡ store.base → IsAlike store (store_of b script (first_beginning script) plan told)
 
--- the first session of the script begins, and its clients are new
+-- the first session of the script starts
 pub record IsOpened (script : Script) (stage : Stage) : Type 0 where
-  pub begins : Begins (store_in stage.shelf) (world_in stage.shelf)
+  pub start : scene_in stage ≡ start_of (store_in stage.shelf) script.homes
   pub store : IsStoreOf prefs_basis script (store_in stage.shelf)
-  pub clients : (scene_in stage).clients ≡ new_clients script.homes
   pub keeps : StageKeeps stage
 
 -- the line is understood, and says what one of so many clients is to do

@@ -13,7 +13,7 @@ follow-requires-clause-lines c =
     let script = c.args.script.now in
     let stage = c.in_ok-stage.stage in
     let runs = plan_runs script c.args.plan.now c.requires.keeps c.requires.plan in
-    lines_fit script stage _ c.as_slice.result.now c.requires.keeps c.in_ok-stage.ensures.opened.clients (omega (arith, stage.clients.ok.0)) (subst (λ lines. All (KeepsRun script.names.clients) lines) (sym c.as_slice.ensures) runs.0.each)
+    lines_fit script stage _ c.as_slice.result.now c.requires.keeps c.in_ok-stage.ensures.opened (omega (arith, stage.clients.ok.0)) (subst (λ lines. All (KeepsRun script.names.clients) lines) (sym c.as_slice.ensures) runs.0.each)
 
 pub returns-clause-played : goal.returns-clause-played
 returns-clause-played c =

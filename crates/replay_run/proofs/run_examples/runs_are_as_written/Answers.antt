@@ -11,7 +11,7 @@ pub returns : goal.returns
 unfolding is_dead is_ready last_mark edition_of weight_of kind_weight last_death used_up
 returns c =
     record {
-      two_nodes = IsRun-computed empty refl refl (n1 ∷ n2 ∷ []) runs.two_nodes 18 refl refl refl;
-      equal_value = IsRun-computed holds_one refl refl (n1 ∷ []) runs.equal_value 7 refl refl refl;
-      greatest = IsRun-computed empty refl refl (n1 ∷ []) runs.greatest 14 refl refl refl;
+      two_nodes = IsRun-computed empty refl (n1 ∷ n2 ∷ []) runs.two_nodes 18 refl refl refl;
+      equal_value = IsRun-computed holds_one refl (n1 ∷ []) runs.equal_value 7 refl refl refl;
+      greatest = IsRun-computed empty refl (n1 ∷ []) runs.greatest 14 refl refl refl;
     }
