@@ -94,8 +94,7 @@ module _ {C F V T : Type 0} (c : codec_trait.Ghosts C V) (t : transform_trait.Gh
             then = (
               record {
                 change = record { old = given.value.value; new = row.new; held = refl; makes = row.other.makes; differs = row.other.differs };
-                is = rw read.same.codec at row.is;
-                past = rw read.same.store at row.past;
+                long = record { is = rw read.same.codec at row.long.is; past = rw read.same.store at row.long.past };
               },
               stops,
             );

@@ -1,8 +1,10 @@
 -- What an update knows stays so, whatever others do between two of its turns.
-use Rattle.std.proofs.Common.{◌≡◌, ◌∙◌, inl, inr, ◌≤◌, ℕ, Bool, true, false, List, ◌++◌, length, Option, Some, None, IfSome, IsTrue, append_assoc, refl, sym, ap, arith}
+use Rattle.std.proofs.Common.{◌≡◌, ◌∙◌, inl, inr, ◌≤◌, ℕ, Bool, true, false, List, ◌++◌, length, Option, Some, None, IfSome, IsTrue, append_assoc, refl, sym, ap, arith, ◌∷◌}
 use Rattle.std.proofs.lemmas.List.{length-append}
 use Rattle.std.proofs.lemmas.List.Folds.{list_any-append}
+use Rattle.store_traits.specs.declared.ids.CallId.{CallId}
 use Rattle.hist_journal.specs.declared.seen.EntrySeen.{EntrySeen}
+use Rattle.hist_journal.specs.declared.seen.KindSeen.TheVariants.{Edit}
 use Rattle.hist_journal.specs.Quiet.{pending}
 use Rattle.folder_disk.specs.Contents.{Contents}
 use Rattle.shelf.specs.declared.store.Store.{Store}
@@ -17,9 +19,10 @@ use Rattle.shelf.proofs.Bools.{never}
 use Rattle.shelf.proofs.MeanwhileLemmas.{no_death, own, ready, value}
 use Rattle.shelf.proofs.PendingMeanwhile.{pending_stays, pending_was}
 use Rattle.node_core.specs.Between.{Between, Undisturbed}
-use Rattle.node_core.specs.Knows.{Holds, IsDue, IsInScratch, Knows, KnowsContents}
-use Rattle.node_core.specs.Own.{OwnEntries, is_late}
+use Rattle.node_core.specs.Knows.{Holds, IsInScratch, Knows, KnowsContents}
+use Rattle.node_core.specs.Own.{OwnEntries, is_late, HasChanged}
 use Rattle.node_core.specs.Phases.{is_holding, is_raised}
+use Rattle.node_core.proofs.KeepingOn.{due_on}
 
 module _ {V T : Type 0} where
   -- a call whose Raise is open owns the lock
@@ -33,18 +36,22 @@ module _ {V T : Type 0} where
   still_began None list more began = tt
   still_began (Some entries) list more began = omega (arith, length-append list more, began)
 
-  -- its entries are those that it had
-  same_entries : (c : Call V T) (at : At V T) (list more : List (EntrySeen V T)) → NoneOf c.id more → OwnEntries c.id at list → OwnEntries c.id at (list ++ more)
-  same_entries c (SyncingFolder (Changed place)) list more none has =
+  -- a value change stands still once others add entries
+  abbrev pub has_changed-more : (call : CallId) (place : ℕ) (list more : List (EntrySeen V T)) → NoneOf call more → HasChanged call place list → HasChanged call place (list ++ more)
+  has_changed-more call place list more others has =
       record {
         before = has.before;
         edit = has.edit;
         behind = has.behind ++ more;
-        is = rw has.is (append_assoc has.before _ more);
+        is = ap (λ xs. xs ++ more) has.is ∙ append_assoc has.before (record { who = call; kind = Edit has.edit } ∷ has.behind) more;
         early = has.early;
-        last = own is_any c.id has.behind more none ∙ has.last;
+        last = own is_any call has.behind more others ∙ has.last;
         counted = has.counted;
       }
+
+  -- its entries are those that it had
+  same_entries : (c : Call V T) (at : At V T) (list more : List (EntrySeen V T)) → NoneOf c.id more → OwnEntries c.id at list → OwnEntries c.id at (list ++ more)
+  same_entries c (SyncingFolder (Changed place)) list more none has = has_changed-more c.id place list more none has
   same_entries c other list more none early = own is_late c.id list more none ∙ early
 
   module _ (c : Call V T) (last now : World V T) (b : Between c last now) (entries : ℕ) (begun : c.since ≡ Some entries) (began : entries ≤ length last.history) (alive : has_died c.id.node c.since now.history ≡ false) where
@@ -61,20 +68,17 @@ module _ {V T : Type 0} where
 module _ {V T M : Type 0} (r : Rules V T) (s : Store V M) where
   -- what is known of contents hangs on the value and on the scratch file alone
   module _ (folder folder_now : Contents) (list list_now : List (EntrySeen V T)) (scratch : folder_now.scratch ≡ folder.scratch) (same : value_at r.meanings s list_now ≡ value_at r.meanings s list) where
-    still_due : (plan : Plan V T) → IsDue r s list plan → IsDue r s list_now plan
-    still_due plan due = record { value = due.value; allowed = rw same due.allowed; makes = rw same due.makes; text = due.text }
-
     still_in_scratch : (plan : Plan V T) → IsInScratch r s folder list plan → IsInScratch r s folder_now list_now plan
-    still_in_scratch plan it = record { due = still_due plan it.due; scratch = scratch ∙ it.scratch }
+    still_in_scratch plan it = record { due = due_on r s list list_now plan same it.due; scratch = scratch ∙ it.scratch }
 
     same_contents : (at : At V T) → KnowsContents r s at folder list → KnowsContents r s at folder_now list_now
     same_contents (Migrating edit value) it = same ∙ it
     same_contents (Finishing edit) it = record { value = it.value; held = same ∙ it.held }
-    same_contents (Raising plan) it = still_due plan it
-    same_contents (Creating plan) it = still_due plan it
+    same_contents (Raising plan) it = due_on r s list list_now plan same it
+    same_contents (Creating plan) it = due_on r s list list_now plan same it
     same_contents (Appending plan) it = still_in_scratch plan it
     same_contents (SyncingScratch plan) it = still_in_scratch plan it
-    same_contents (Renaming plan) it = record { due = still_due plan it.due; scratch = scratch ∙ it.scratch }
+    same_contents (Renaming plan) it = record { due = due_on r s list list_now plan same it.due; scratch = scratch ∙ it.scratch }
     same_contents (SyncingFolder (Kept edit)) it = rw same it
     same_contents other it = tt
 

@@ -10,7 +10,7 @@ use Rattle.shelf.specs.declared.store.Store.{Store}
 use Rattle.shelf.specs.ApplyRow.{Applies}
 use Rattle.shelf.specs.Base.{ReadsAs}
 use Rattle.shelf.specs.Calls.{At, First, ReadingFirst, Migrating, Reading, Creating, Appending, SyncingScratch, Renaming, SyncingFolder, Changed, Kept, is_gone}
-use Rattle.shelf.specs.Causes.{HasCause, IsFaulted, IsRefused, IsFull, IsSince, IsTooLong}
+use Rattle.shelf.specs.Causes.{HasCause, IsFaulted, IsRefused, IsSince, IsTooLong}
 use Rattle.shelf.specs.Effects.{Fails, next_place}
 use Rattle.shelf.specs.Legal.{value_at}
 use Rattle.shelf.specs.LockRow.{LockRow}
@@ -20,6 +20,7 @@ use Rattle.shelf.specs.declared.progress.Progress.TheVariants.{Ended}
 use Rattle.shelf.specs.ReadRows.{ReadRow, ToMigrations}
 use Rattle.shelf.specs.Turn.{EndsDead, EndsDying, Row, Turn, TurnBy, begin, has_died_by, dies_now}
 use Rattle.shelf.specs.World.{Rules, World, Turned}
+use Rattle.shelf.specs.PastBounds.{IsFull}
 use Rattle.node_core.specs.Knows.{Knows}
 use Rattle.node_core.specs.Own.{IsEarly, IsFor}
 use Rattle.node_core.specs.Reading.{ReadsTruly}
@@ -60,13 +61,13 @@ module _ {V T M : Type 0} (r : Rules V T) (s : Store V M) (edit : T) where
       front_now (IsSince r s (edition_of t.world.history) (IsTooLong r s edit len)) t (ap (λ (w : World V T). w.history) it.1.world)
       (record {
         fresh = omega arith;
-        holds = inl (record { old = change.old; new = change.new; held = held ∙ change.held; makes = ap (λ t. r.meanings.after t change.old) (sym so) ∙ change.makes; long = record { is = it.0.is; past = it.0.past } });
+        holds = inl (record { old = change.old; new = change.new; held = held ∙ change.held; makes = ap (λ t. r.meanings.after t change.old) (sym so) ∙ change.makes; long = it.0.long });
       })
   applies_cause asked t value other so held it = absurd it
 
   lock_cause : (asked : T) (t : Turned V T) (e : UpdateError) → LockRow r s t asked (Ended (Err e)) → Caused t e
   lock_cause asked t (error.HistoryFull entries weight) it =
-      front_now (IsFull r s entries weight) t (ap (λ (w : World V T). w.history) it.2.world) (record { entries_then = it.1.entries_now; weight_then = it.1.weight_now; bound = it.1.bound })
+      front_now (IsFull r s entries weight) t (ap (λ (w : World V T). w.history) it.2.world) it.1
   lock_cause asked t error.NoMemory it = tt
   lock_cause asked t other it = absurd it
 

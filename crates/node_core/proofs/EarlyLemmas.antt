@@ -1,6 +1,7 @@
 -- What a call may add next, by the entries of it that stand already.
 use Rattle.std.proofs.Common.{◌≡◌, ◌∙◌, Bool, true, false, ◌&&◌, ℕ, List, [], ◌∷◌, ◌++◌, refl, sym, ap, append_assoc}
 use Rattle.std.specs.List.{list_any}
+use Rattle.std.proofs.lemmas.Bool.{and_right}
 use Rattle.store_traits.specs.declared.ids.CallId.{CallId}
 use Rattle.hist_journal.specs.declared.seen.EntrySeen.{EntrySeen}
 use Rattle.hist_journal.specs.declared.seen.KindSeen.{KindSeen}
@@ -9,21 +10,16 @@ use Rattle.hist_journal.specs.Kinds.{is_call}
 use Rattle.hist_journal.specs.Nodes.{is_dead}
 use Rattle.shelf.specs.CallOrder.{is_ended_update, is_later}
 use Rattle.shelf.specs.Entries.{is_own, is_fault_or_death, is_update, some_entry}
-use Rattle.shelf.proofs.Bools.{never}
+use Rattle.shelf.proofs.Bools.{never, one_more}
 use Rattle.shelf.proofs.GoingOn.{GoesOn, none_ended-push}
 use Rattle.shelf.proofs.LateCallLemmas.{EndsOn}
 use Rattle.shelf.proofs.MeanwhileLemmas as meanwhile
 use Rattle.shelf.proofs.RaiseLemmas.{none_of_fewer}
 use Rattle.node_core.specs.Own.{HasChanged, IsEarly, is_late}
-use Rattle.node_core.proofs.KeepingOn.{one_more}
 
 not_own : (own late is : Bool) → (late ≡ false → is ≡ false) → (own && late) ≡ false → (own && is) ≡ false
 not_own true late is covers none = covers none
 not_own false late is covers none = refl
-
-no_kind : (own : Bool) → (own && false) ≡ false
-no_kind true = refl
-no_kind false = refl
 
 module _ {V T : Type 0} where
   ends_late : (kind : KindSeen V T) → is_late kind ≡ false → is_fault_or_death kind ≡ false
@@ -31,13 +27,14 @@ module _ {V T : Type 0} where
   ends_late (Inited node) early = refl
   ends_late other early = never (sym early)
 
-  updates_late : (kind : KindSeen V T) → is_late kind ≡ false → is_update kind ≡ false
+  pub updates_late : (kind : KindSeen V T) → is_late kind ≡ false → is_update kind ≡ false
   updates_late Raise early = refl
   updates_late (Inited node) early = refl
   updates_late other early = never (sym early)
 
   module _ (call : CallId) (list : List (EntrySeen V T)) where
-    none_late : (is_kind : KindSeen V T → Bool) → ((kind : KindSeen V T) → is_late kind ≡ false → is_kind kind ≡ false) → IsEarly call list → list_any (is_own is_kind call) list ≡ false
+    -- of a kind that is late, an early call has no entry
+    pub none_late : (is_kind : KindSeen V T → Bool) → ((kind : KindSeen V T) → is_late kind ≡ false → is_kind kind ≡ false) → IsEarly call list → list_any (is_own is_kind call) list ≡ false
     none_late is_kind covers early =
         none_of_fewer (is_own is_kind call) (is_own is_late call) list (λ e none. not_own (is_call call e.who) (is_late e.kind) (is_kind e.kind) (covers e.kind) none) early
 
@@ -57,7 +54,7 @@ module _ {V T : Type 0} where
         unended =
             ap (list_any (is_own is_fault_or_death call)) is
             ∙ (meanwhile.own is_fault_or_death call (changed.before ++ e ∷ []) changed.behind changed.last
-            ∙ one_more (is_own is_fault_or_death call) changed.before e (none_late call changed.before is_fault_or_death ends_late changed.early) (no_kind (is_call call call)));
+            ∙ one_more (is_own is_fault_or_death call) changed.before e (none_late call changed.before is_fault_or_death ends_late changed.early) (and_right (is_call call call) false refl));
         first =
             ap (some_entry (is_ended_update call)) is
             ∙ (meanwhile.ended_update call (changed.before ++ e ∷ []) changed.behind changed.last ∙ none_ended-push call changed.before e (none_late call changed.before is_update updates_late changed.early));

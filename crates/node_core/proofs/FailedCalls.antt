@@ -1,7 +1,7 @@
 -- What the history shows of a call that a Fault ended.
-use Rattle.std.proofs.Common.{◌≡◌, ◌∙◌, ◌+◌, ◌&&◌, ℕ, Bool, true, false, List, [], ◌∷◌, ◌++◌, length, append_assoc, refl, sym, ap}
+use Rattle.std.proofs.Common.{◌≡◌, ◌∙◌, ◌+◌, ℕ, Bool, true, false, List, [], ◌∷◌, ◌++◌, length, append_assoc, refl, sym, ap}
 use Rattle.std.specs.List.{list_any}
-use Rattle.std.proofs.lemmas.Bool.{or_parts}
+use Rattle.std.proofs.lemmas.Bool.{or_parts, and_right}
 use Rattle.store_traits.specs.declared.ids.CallId.{CallId}
 use Rattle.hist_journal.specs.declared.device.Device.TheVariants.{Folder}
 use Rattle.hist_journal.specs.declared.seen.EntrySeen.{EntrySeen}
@@ -11,37 +11,24 @@ use Rattle.hist_journal.specs.Kinds.{is_call, is_change}
 use Rattle.shelf.specs.Causes.{IsFaulted, IsUncertain, is_unsynced}
 use Rattle.shelf.specs.Entries.{is_own, is_update, some_entry}
 use Rattle.shelf.specs.Places.{StandsAt, is_fault_of}
-use Rattle.shelf.proofs.Bools.{never}
-use Rattle.shelf.proofs.RaiseLemmas.{none_of_fewer}
+use Rattle.shelf.proofs.Bools.{never, one_more}
 use Rattle.shelf.proofs.StepLemmas.{itself}
 use Rattle.node_core.specs.Own.{HasChanged, IsEarly, is_late}
-use Rattle.node_core.proofs.KeepingOn.{one_more, own_none}
-
-own_fewer : (own few many : Bool) → (many ≡ false → few ≡ false) → (own && many) ≡ false → (own && few) ≡ false
-own_fewer true few many fewer none = fewer none
-own_fewer false few many fewer none = refl
+use Rattle.node_core.proofs.EarlyLemmas.{none_late, updates_late}
 
 module _ {V T : Type 0} where
-  early_updates_nothing : (kind : KindSeen V T) → is_late kind ≡ false → is_update kind ≡ false
-  early_updates_nothing Raise early = refl
-  early_updates_nothing (Inited node) early = refl
-  early_updates_nothing other early = never (sym early)
-
   early_changes_nothing : (kind : KindSeen V T) → is_late kind ≡ false → is_change kind ≡ false
   early_changes_nothing Raise early = refl
   early_changes_nothing (Inited node) early = refl
   early_changes_nothing other early = never (sym early)
 
   module _ (call : CallId) where
-    none_of_kind : (is_kind : KindSeen V T → Bool) → ((kind : KindSeen V T) → is_late kind ≡ false → is_kind kind ≡ false) → (list : List (EntrySeen V T)) → IsEarly call list → list_any (is_own is_kind call) list ≡ false
-    none_of_kind is_kind fewer list = none_of_fewer (is_own is_kind call) (is_own is_late call) list (λ e none. own_fewer (is_call call e.who) (is_kind e.kind) (is_late e.kind) (fewer e.kind) none)
-
     -- an early call has no Edit and no Same
     pub no_update : (list : List (EntrySeen V T)) → IsEarly call list → list_any (is_own is_update call) list ≡ false
-    no_update = none_of_kind is_update early_updates_nothing
+    no_update list = none_late call list is_update updates_late
 
     no_change : (list : List (EntrySeen V T)) → IsEarly call list → list_any (is_own is_change call) list ≡ false
-    no_change = none_of_kind is_change early_changes_nothing
+    no_change list = none_late call list is_change early_changes_nothing
 
     -- where it has changed nothing, all that it changed is synced
     all_synced : (list : List (EntrySeen V T)) → list_any (is_own is_change call) list ≡ false → some_entry (is_unsynced call) list ≡ false
@@ -63,7 +50,7 @@ module _ {V T : Type 0} where
       fault_stands = record { before = list; entry = fault_entry; behind = []; is = grew; counted = refl; passed = fault_is_own }
 
       none_with_fault : (is_kind : KindSeen V T → Bool) → is_kind (Fault Folder count) ≡ false → list_any (is_own is_kind call) list ≡ false → list_any (is_own is_kind call) now ≡ false
-      none_with_fault is_kind other none = rw grew (one_more (is_own is_kind call) list fault_entry none (own_none (is_call call call) (is_kind (Fault Folder count)) other))
+      none_with_fault is_kind other none = rw grew (one_more (is_own is_kind call) list fault_entry none (and_right (is_call call call) (is_kind (Fault Folder count)) other))
 
       -- a call that fails before it changes anything
       pub faulted : IsEarly call list → IsFaulted call (length list + 1) now

@@ -1,5 +1,5 @@
 -- A call is at work for the transform that it was made for: its turns and those of others leave it so.
-use Rattle.std.proofs.Common.{◌≡◌, ◌∙◌, inl, inr, ◌==◌, ℕ, Bool, true, false, List, ◌∷◌, ◌++◌, append_assoc, length, drop, refl, ap, if◌then◌else◌, Result}
+use Rattle.std.proofs.Common.{◌≡◌, inl, inr, ◌==◌, ℕ, Bool, true, false, List, ◌++◌, length, drop, refl, ap, if◌then◌else◌, Result}
 use Rattle.store_traits.specs.declared.ids.CallId.{CallId}
 use Rattle.store_traits.specs.declared.update_error.UpdateError.{UpdateError}
 use Rattle.hist_journal.specs.declared.seen.EntrySeen.{EntrySeen}
@@ -8,17 +8,16 @@ use Rattle.shelf.specs.declared.store.Store.{Store}
 use Rattle.shelf.specs.Calls.{At, Call, First, ReadingFirst, Migrating, Finishing, Reading, Raising, Creating, Appending, SyncingScratch, Renaming, SyncingFolder, Changed, Kept, Gone, Plan, is_gone}
 use Rattle.shelf.specs.Effects.{is_ready_now}
 use Rattle.shelf.specs.LockRow.{Waits}
-use Rattle.shelf.specs.Entries.{is_any}
 use Rattle.shelf.specs.Meanwhile.{NoneOf}
 use Rattle.shelf.specs.declared.progress.Progress.{Progress}
 use Rattle.shelf.specs.declared.progress.Progress.TheVariants.{Moved, Blocked, Ended}
 use Rattle.shelf.specs.Turn.{Row, Turn, TurnBy, begin, has_died_by, dies_now}
 use Rattle.shelf.specs.WriteRows.{piece_written}
 use Rattle.shelf.specs.World.{Rules, World, Turned}
-use Rattle.shelf.proofs.MeanwhileLemmas.{own}
 use Rattle.node_core.specs.Between.{Between}
 use Rattle.node_core.specs.Knows.{Knows}
-use Rattle.node_core.specs.Own.{HasChanged, IsFor, WritesEdit}
+use Rattle.node_core.specs.Own.{IsFor, WritesEdit}
+use Rattle.node_core.proofs.BetweenLemmas.{has_changed-more}
 use Rattle.node_core.proofs.KeepingLemmas.{answered_is_gone, waits_by}
 use Rattle.node_core.proofs.KeepingOn.{knows_begun, standing}
 use Rattle.node_core.proofs.KeepingWrites.{has_changed}
@@ -68,20 +67,7 @@ module _ {V T M : Type 0} (r : Rules V T) (s : Store V M) (edit : T) where
   turn_is_for t (Ended answer) it k so = rw (answered_is_gone r s t answer it) tt
 
 module _ {V T : Type 0} where
-  -- a value change stands still once others add entries
-  abbrev pub has_changed-more : (call : CallId) (place : ℕ) (list more : List (EntrySeen V T)) → NoneOf call more → HasChanged call place list → HasChanged call place (list ++ more)
-  has_changed-more call place list more others has =
-      record {
-        before = has.before;
-        edit = has.edit;
-        behind = has.behind ++ more;
-        is = ap (λ xs. xs ++ more) has.is ∙ append_assoc has.before (record { who = call; kind = Edit has.edit } ∷ has.behind) more;
-        early = has.early;
-        last = own is_any call has.behind more others ∙ has.last;
-        counted = has.counted;
-      }
-
-  -- and the call is at work for its transform still
+  -- a call is at work for its transform still once others add entries
   pub still_for : (call : CallId) (edit : T) (at : At V T) (list more : List (EntrySeen V T)) → NoneOf call more → IsFor call edit at list → IsFor call edit at (list ++ more)
   still_for call edit (SyncingFolder (Changed place)) list more others so = (has_changed-more call place list more others so.0, so.1)
   still_for call edit (SyncingFolder (Kept asked)) list more others so = so

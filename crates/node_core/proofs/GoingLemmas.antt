@@ -2,7 +2,6 @@
 use Rattle.std.proofs.Common.{◌≡◌, ◌≢◌, ◌∙◌, ◌⊎◌, inl, inr, ◌==◌, ℕ, Bool, true, false, [], ◌++◌, length, Some, append-nil, unwrap_or, refl, sym, ap, arith, Result}
 use Rattle.std.specs.List.{list_any}
 use Rattle.std.proofs.lemmas.Bool.{eq-eqb}
-use Rattle.std.proofs.lemmas.Bool.Decides.{nat_tests}
 use Rattle.store_traits.specs.declared.codec.Codec as codec_trait
 use Rattle.store_traits.specs.declared.ids.CallId.{CallId}
 use Rattle.store_traits.specs.declared.transform.Transform as transform_trait
@@ -21,7 +20,7 @@ use Rattle.shelf.specs.World.{Turned}
 use Rattle.shelf.proofs.Bools.{never}
 use Rattle.shelf.proofs.DeathLemmas.{has_not_died}
 use Rattle.shelf.proofs.MeanwhileLemmas.{no_death}
-use Rattle.shelf.proofs.StepLemmas.{ended_leaves, itself, turn_has_to_wait, turn_waits}
+use Rattle.shelf.proofs.StepLemmas.{ended_leaves, itself, turn_has_to_wait, turn_waits, first_goes_on, same_call}
 use Rattle.node_core.specs.declared.origin.Origin.{Origin}
 use Rattle.node_core.specs.Between.{Between}
 use Rattle.node_core.specs.Phases.{is_holding}
@@ -32,19 +31,7 @@ use Rattle.node_core.proofs.ReadinessLemmas.{stays_ready}
 use Rattle.node_core.proofs.ReadyLemmas.{ready_now}
 use Rattle.node_core.proofs.SparingLemmas.{turn_owner, turn_spares}
 use Rattle.node_core.specs.GoesOn.{GoesOn}
-use Rattle.node_core.proofs.MovingLemmas.{at_first, first_runs, moved_runs}
-
-abbrev named : ℕ → ℕ → ℕ → CallId
-named node client number = record { node = record { 0 = node }; client = record { 0 = client }; number = number }
-
--- calls of one node, client and number are one call
-same_call : (a b : CallId) → is_call a b ≡ true → a ≡ b
-same_call a b is =
-    let node : a.node.0 ≡ b.node.0 = grind (arith, nat_tests, is) in
-    let client : a.client.0 ≡ b.client.0 = grind (arith, nat_tests, is) in
-    let number : a.number ≡ b.number = grind (arith, nat_tests, is) in
-    let same : named a.node.0 a.client.0 a.number ≡ named b.node.0 b.client.0 b.number = rw (node, client, number) refl in
-    same
+use Rattle.node_core.proofs.MovingLemmas.{at_first, moved_runs}
 
 module _ {C F V T : Type 0} (c : codec_trait.Ghosts C V) (t : transform_trait.Ghosts T V) (f : folder_trait.Ghosts F) where
   -- a call that is ready at the shelf as it is may do its turn
@@ -181,6 +168,6 @@ module _ {C F V T : Type 0} (c : codec_trait.Ghosts C V) (t : transform_trait.Gh
         where
           readied : o_initialised ≡ true → is_first o_at ≡ true → is_ready o.call.node new.list ≡ true
           readied is first =
-              let b = between (first_runs o_at first) in
+              let b = between (first_goes_on o_at first) in
               let spared = no_death o.call.node (length old.list) old.list b.more (has_not_died o.call.node (Some (length old.list)) (old.list ++ b.more) (rw b.grew at did.alive_after)) (omega arith) in
               rw b.grew (stays_ready o.call.node old.list b.more spared (other.readiness is first))

@@ -1,8 +1,6 @@
 -- A call still knows the world once it is at its next step: without a new entry, and behind one of its own.
-use Rattle.std.proofs.Common.{◌≡◌, ◌∙◌, ◌↔◌, ◌≤◌, ◌==◌, ◌&&◌, ℕ, nat_lt, Bool, true, false, IsTrue, List, [], ◌∷◌, ◌++◌, Option, Some, None, IfSome, length, length-append, unwrap_or, refl, arith}
-use Rattle.std.specs.List.{list_any}
-use Rattle.std.proofs.lemmas.Bool.Decides.{nat_tests}
-use Rattle.std.proofs.lemmas.List.Folds.{list_any-append}
+use Rattle.std.proofs.Common.{◌≡◌, ◌∙◌, ◌↔◌, ◌≤◌, ◌==◌, ℕ, true, false, IsTrue, List, [], ◌∷◌, ◌++◌, Option, Some, None, IfSome, length, length-append, unwrap_or, refl, arith}
+use Rattle.std.proofs.lemmas.Bool.{and_right}
 use Rattle.store_traits.specs.declared.ids.CallId.{CallId}
 use Rattle.hist_journal.specs.declared.seen.EntrySeen.{EntrySeen}
 use Rattle.hist_journal.specs.declared.seen.KindSeen.{KindSeen}
@@ -10,12 +8,14 @@ use Rattle.hist_journal.specs.Kinds.{is_call}
 use Rattle.hist_journal.specs.Quiet.{pending}
 use Rattle.shelf.specs.declared.store.Store.{Store}
 use Rattle.shelf.specs.CallOrder.{is_later}
-use Rattle.shelf.specs.Calls.{At, Call}
+use Rattle.shelf.specs.Calls.{At, Call, Plan}
 use Rattle.shelf.specs.Effects.{at_next}
 use Rattle.shelf.specs.Entries.{is_own}
+use Rattle.shelf.specs.Legal.{value_at}
 use Rattle.shelf.specs.Turn.{begin}
 use Rattle.shelf.specs.World.{Rules, World, Turned}
-use Rattle.node_core.specs.Knows.{Holds, Knows, KnowsContents}
+use Rattle.shelf.proofs.Bools.{not_later, one_more}
+use Rattle.node_core.specs.Knows.{Holds, Knows, KnowsContents, IsDue}
 use Rattle.node_core.specs.Own.{IsEarly, OwnEntries, is_late}
 use Rattle.node_core.specs.Phases.{is_holding, is_initialising, is_raised, room_at}
 use Rattle.node_core.specs.Plans.{PlanAt}
@@ -30,19 +30,6 @@ still_begun : (since : Option ℕ) (old now : ℕ) → old ≤ now → IfSome si
 still_begun None old now grew within = tt
 still_begun (Some entries) old now grew within = omega (arith, grew, within)
 
--- no call is later than itself
-not_later : (same : Bool) (number : ℕ) → (same && nat_lt number number) ≡ false
-not_later same number = grind (arith, nat_tests)
-
--- nor is it of a kind that its entry is not of
-pub own_none : (own kind : Bool) → kind ≡ false → (own && kind) ≡ false
-own_none true kind none = none
-own_none false kind none = refl
-
--- one more that does not pass
-pub one_more : {X : Type 0} (p : X → Bool) (list : List X) (x : X) → list_any p list ≡ false → p x ≡ false → list_any p (list ++ x ∷ []) ≡ false
-one_more p list x were is = list_any-append p list (x ∷ []) ∙ rw (were, is) refl
-
 module _ {V T : Type 0} where
   -- the call at this step
   abbrev pub standing : At V T → Call V T → Call V T
@@ -50,9 +37,13 @@ module _ {V T : Type 0} where
 
   -- it is told of by nothing but an Inited and a Raise still
   pub is_early-push : (call : CallId) (list : List (EntrySeen V T)) (kind : KindSeen V T) → IsEarly call list → is_late kind ≡ false → IsEarly call (list ++ record { who = call; kind = kind } ∷ [])
-  is_early-push call list kind early so = one_more (is_own is_late call) list (record { who = call; kind = kind }) early (own_none (is_call call call) (is_late kind) so)
+  is_early-push call list kind early so = one_more (is_own is_late call) list (record { who = call; kind = kind }) early (and_right (is_call call call) (is_late kind) so)
 
 module _ {V T M : Type 0} (r : Rules V T) (s : Store V M) where
+  -- a plan is due as long as the value stays
+  pub due_on : (old now : List (EntrySeen V T)) (plan : Plan V T) → value_at r.meanings s now ≡ value_at r.meanings s old → IsDue r s old plan → IsDue r s now plan
+  due_on old now plan same d = record { value = d.value; allowed = rw same d.allowed; makes = rw same d.makes; text = d.text }
+
   -- a call that begins its turn knows what it knew
   pub knows_begun : (t : Turned V T) → Knows r s t.world t.call → Knows r s t.world (begin t).call
   knows_begun t k =

@@ -28,7 +28,7 @@ use Rattle.node_core.specs.Knows.{IsDue, IsInScratch, Knows, KnowsContents}
 use Rattle.node_core.specs.Own.{HasChanged, IsEarly, OwnEntries}
 use Rattle.node_core.specs.Phases.{is_holding, is_initialising, is_raised, room_at}
 use Rattle.node_core.specs.Plans.{HasEdit, PlanAt}
-use Rattle.node_core.proofs.KeepingOn.{is_early-push, knows_behind, knows_on, standing}
+use Rattle.node_core.proofs.KeepingOn.{is_early-push, knows_behind, knows_on, standing, due_on}
 
 module _ {V T : Type 0} where
   -- an Edit says nothing of whether a node is ready
@@ -53,11 +53,7 @@ module _ {V T : Type 0} where
       }
 
 module _ {V T M : Type 0} (r : Rules V T) (s : Store V M) where
-  -- a plan is due as long as the value stays
-  due_on : (old now : List (EntrySeen V T)) (plan : Plan V T) → value_at r.meanings s now ≡ value_at r.meanings s old → IsDue r s old plan → IsDue r s now plan
-  due_on old now plan same d = record { value = d.value; allowed = rw same d.allowed; makes = rw same d.makes; text = d.text }
-
-  -- and once its next piece is written
+  -- a plan is due still once its next piece is written
   due_written : (t : Turned V T) (plan : Plan V T) → IsDue r s t.world.history plan → IsDue r s t.world.history (piece_written plan)
   due_written t plan d =
       record {
@@ -84,7 +80,7 @@ module _ {V T M : Type 0} (r : Rules V T) (s : Store V M) where
         room = omega (arith, held.room);
         ready = ap (is_ready t.call.id.node) grew ∙ (is_ready-push t.call.id.node t.world.history e ∙ held.ready);
       })
-      (λ is. due_on t.world.history t.world_after.history plan (ap (value_at r.meanings s) grew ∙ value_of-other r.meanings.after s.base t.world.history e refl) (k.contents (rw told at is))))
+      (λ is. due_on r s t.world.history t.world_after.history plan (ap (value_at r.meanings s) grew ∙ value_of-other r.meanings.after s.base t.world.history e refl) (k.contents (rw told at is))))
 
   -- a turn without an entry, and with a folder call
   done : (at next : At V T) (Makes : Contents → Contents → Type 0) (t : Turned V T) → Does t Makes [] next → Knows r s t.world (standing at t.call) → is_holding at ≡ true → IsEarly t.call.id t.world.history

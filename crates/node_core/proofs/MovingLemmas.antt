@@ -1,31 +1,37 @@
 -- A call that moved has not ended, and a call that has not ended has turns left.
-use Rattle.std.proofs.Common.{◌≡◌, inl, inr, ◌≤◌, ◌==◌, ℕ, Bool, true, false, length, refl, sym, arith, if◌then◌else◌}
+use Rattle.std.proofs.Common.{◌≡◌, inl, inr, ◌≤◌, ◌==◌, ℕ, Bool, true, false, length, refl, sym, arith, if◌then◌else◌, ◌⊎◌, ap}
 use Rattle.shelf.specs.declared.progress.Progress.TheVariants.{Moved}
 use Rattle.shelf.specs.declared.store.Store.{Store}
-use Rattle.shelf.specs.Calls.{At, First, ReadingFirst, Migrating, Finishing, Reading, Raising, Creating, Appending, SyncingScratch, Renaming, SyncingFolder, Gone, is_first, is_gone}
-use Rattle.shelf.specs.Effects.{is_ready_now}
+use Rattle.shelf.specs.Calls.{At, First, ReadingFirst, Migrating, Finishing, Reading, Raising, Creating, Appending, SyncingScratch, Renaming, SyncingFolder, Gone, is_first, is_gone, Plan}
+use Rattle.shelf.specs.Effects.{is_ready_now, freed}
 use Rattle.shelf.specs.Turn.{Row, TurnBy, Turn, begin, has_died_by, dies_now}
-use Rattle.shelf.specs.World.{Rules, Turned}
+use Rattle.shelf.specs.World.{Rules, Turned, World}
 use Rattle.shelf.specs.WriteRows.{piece_written}
 use Rattle.shelf.proofs.Bools.{never}
+use Rattle.shelf.proofs.StepLemmas.{first_goes_on}
 use Rattle.node_core.specs.Phases.{is_holding}
 use Rattle.node_core.specs.StepsLeft.{steps_left}
 
-module _ {V T : Type 0} where
-  -- one of two steps, neither of which is the end
-  either : (b : Bool) (one other : At V T) → is_gone one ≡ false → is_gone other ≡ false → is_gone (if b then one else other) ≡ false
-  either true one other goes goes_too = goes
-  either false one other goes goes_too = goes_too
+lock_holds : (V : Type 0) {T : Type 0} (b : Bool) (edit : T) → is_holding {V = V} (if b then Reading edit else ReadingFirst edit) ≡ true
+lock_holds V true edit = refl
+lock_holds V false edit = refl
 
-  -- a call that owns nothing and has not ended is at a first turn, and a call at a first turn has not ended
+module _ {V T : Type 0} where
+  filling_holds : (b : Bool) (plan : Plan V T) → is_holding (if b then SyncingScratch plan else Appending plan) ≡ true
+  filling_holds true plan = refl
+  filling_holds false plan = refl
+
+  -- a call that owns the lock has not ended
+  holding_goes_on : (at : At V T) → is_holding at ≡ true → is_gone at ≡ false
+  holding_goes_on (First edit) is = refl
+  holding_goes_on Gone is = never is
+  holding_goes_on other is = refl
+
+  -- a call that owns nothing and has not ended is at a first turn
   pub at_first : (at : At V T) → is_holding at ≡ false → is_gone at ≡ false → is_first at ≡ true
   at_first (First edit) free running = refl
   at_first Gone free running = never (sym running)
   at_first other free running = never (sym free)
-
-  pub first_runs : (at : At V T) → is_first at ≡ true → is_gone at ≡ false
-  first_runs (First edit) first = refl
-  first_runs other first = never first
 
   pub has_left : (limit : ℕ) (initialised : Bool) (at : At V T) → is_gone at ≡ false → 1 ≤ steps_left limit initialised at
   has_left limit true (First edit) running = omega arith
@@ -43,28 +49,32 @@ module _ {V T : Type 0} where
   has_left limit initialised Gone running = never (sym running)
 
 module _ {V T M : Type 0} (r : Rules V T) (s : Store V M) where
-  abbrev Runs : Turned V T → Type 0
-  Runs t = is_gone t.call_after.at ≡ false
+  -- the call owns the lock still, or is at its first step and has freed it
+  abbrev pub HoldsOrBegins : Turned V T → Type 0
+  HoldsOrBegins t = (is_holding t.call_after.at ≡ true) ⊎ ((is_first t.call_after.at ≡ true) × (t.world_after.owner ≡ freed t.call.id t.world.owner))
 
-  row_runs : (at : At V T) (t : Turned V T) → Row r s at t Moved → Runs t
-  row_runs (First edit) t it = rw it.call (either (is_ready_now t) (Reading edit) (ReadingFirst edit) refl refl)
-  row_runs (ReadingFirst edit) t it = rw it.then.call refl
-  row_runs (Migrating edit value) t it = rw it.1.call refl
-  row_runs (Finishing edit) t it = rw it.call refl
-  row_runs (Reading edit) t it = elim it.then [ inl writes ↦ rw writes.goes_on.call refl | inr keeps ↦ rw keeps.goes_on.call refl ]
-  row_runs (Raising plan) t it = rw it.call refl
-  row_runs (Creating plan) t it = rw it.call (either (length plan.text.rest == 0) (SyncingScratch plan) (Appending plan) refl refl)
-  row_runs (Appending plan) t it = rw it.call (either (length (piece_written plan).text.rest == 0) (SyncingScratch (piece_written plan)) (Appending (piece_written plan)) refl refl)
-  row_runs (SyncingScratch plan) t it = rw it.call refl
-  row_runs (Renaming plan) t it = rw it.call refl
-  row_runs (SyncingFolder ending) t it = absurd it
-  row_runs Gone t it = absurd it
+  row_goes : (at : At V T) (t : Turned V T) → Row r s at t Moved → HoldsOrBegins t
+  row_goes (First edit) t it = inl (rw it.call (lock_holds V (is_ready_now t) edit))
+  row_goes (ReadingFirst edit) t it = inl (rw it.then.call refl)
+  row_goes (Migrating edit value) t it = inl (rw it.1.call refl)
+  row_goes (Finishing edit) t it = inr (rw it.call refl, ap (λ (w : World V T). w.owner) it.world)
+  row_goes (Reading edit) t it = inl (elim it.then [ inl writes ↦ rw writes.goes_on.call refl | inr keeps ↦ rw keeps.goes_on.call refl ])
+  row_goes (Raising plan) t it = inl (rw it.call refl)
+  row_goes (Creating plan) t it = inl (rw it.call (filling_holds (length plan.text.rest == 0) plan))
+  row_goes (Appending plan) t it = inl (rw it.call (filling_holds (length (piece_written plan).text.rest == 0) (piece_written plan)))
+  row_goes (SyncingScratch plan) t it = inl (rw it.call refl)
+  row_goes (Renaming plan) t it = inl (rw it.call refl)
+  row_goes (SyncingFolder ending) t it = absurd it
+  row_goes Gone t it = absurd it
 
-  runs_by : (gone died dies : Bool) (t : Turned V T) → TurnBy r s gone died dies t Moved → Runs t
-  runs_by true died dies t it = absurd it
-  runs_by false true dies t it = absurd it
-  runs_by false false true t it = absurd it
-  runs_by false false false t it = row_runs t.call.at t it
+  goes_by : (gone died dies : Bool) (t : Turned V T) → TurnBy r s gone died dies t Moved → HoldsOrBegins t
+  goes_by true died dies t it = absurd it
+  goes_by false true dies t it = absurd it
+  goes_by false false true t it = absurd it
+  goes_by false false false t it = row_goes t.call.at t it
 
-  pub moved_runs : (t : Turned V T) → Turn r s t Moved → Runs t
-  moved_runs t it = runs_by (is_gone t.call.at) (has_died_by (begin t)) (dies_now (begin t)) (begin t) it
+  pub moved_goes : (t : Turned V T) → Turn r s t Moved → HoldsOrBegins t
+  moved_goes t it = goes_by (is_gone t.call.at) (has_died_by (begin t)) (dies_now (begin t)) (begin t) it
+
+  pub moved_runs : (t : Turned V T) → Turn r s t Moved → is_gone t.call_after.at ≡ false
+  moved_runs t it = elim (moved_goes t it) [ inl holds ↦ holding_goes_on t.call_after.at holds | inr first ↦ first_goes_on t.call_after.at first.0 ]

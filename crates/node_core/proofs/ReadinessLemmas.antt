@@ -1,6 +1,6 @@
 -- A node that a call has initialised is initialised at the call's next first turn.
-use Rattle.std.proofs.Common.{◌≡◌, ◌∙◌, Bool, true, false, ◌==◌, List, [], ◌∷◌, ◌++◌, unwrap_or, refl, sym, ap, arith, if◌then◌else◌, ℕ, length, inl, inr}
-use Rattle.std.proofs.lemmas.Bool.Decides.{nat_tests}
+use Rattle.std.proofs.Common.{◌≡◌, ◌∙◌, Bool, true, false, ◌==◌, List, [], ◌∷◌, ◌++◌, unwrap_or, refl, sym, ap, if◌then◌else◌, length, inl, inr}
+use Rattle.std.proofs.lemmas.Bool.{eq-eqb}
 use Rattle.store_traits.specs.declared.ids.NodeId.{NodeId}
 use Rattle.hist_journal.specs.declared.seen.EntrySeen.{EntrySeen}
 use Rattle.hist_journal.specs.declared.seen.KindSeen.{KindSeen}
@@ -18,9 +18,6 @@ use Rattle.shelf.specs.World.{Rules, Turned}
 use Rattle.shelf.specs.WriteRows.{piece_written}
 use Rattle.shelf.proofs.Bools.{never}
 use Rattle.shelf.proofs.MeanwhileLemmas.{carried, spared_parts}
-
-itself : (n : ℕ) → (n == n) ≡ true
-itself n = grind (arith, nat_tests)
 
 marked : (same : Bool) → unwrap_or (mark_if same true) true ≡ true
 marked true = refl
@@ -51,7 +48,7 @@ module _ {V T : Type 0} where
   filled plan false = refl
 
   inited : (node : NodeId) (list : List (EntrySeen V T)) (e : EntrySeen V T) → e.kind ≡ Inited node → is_ready node (list ++ e ∷ []) ≡ true
-  inited node list e is = is_ready-push node list e ∙ rw (is, itself node.0) refl
+  inited node list e is = is_ready-push node list e ∙ rw (is, eq-eqb node.0 node.0 refl) refl
 
 module _ {V T M : Type 0} (r : Rules V T) (s : Store V M) where
   -- a call whose next turn is a first one finds its node initialised

@@ -1,6 +1,7 @@
 -- What a turn of the shelf leaves, as a row of the step table.
-use Rattle.std.proofs.Common.{◌≡◌, ◌∙◌, ◌+◌, ◌≤◌, ℕ, Bool, true, false, ◌||◌, List, [], ◌∷◌, ◌++◌, length, Option, Some, None, IsTrue, refl, sym, ap, if◌then◌else◌}
+use Rattle.std.proofs.Common.{◌≡◌, ◌∙◌, ◌+◌, ◌≤◌, ℕ, Bool, true, false, List, [], ◌∷◌, ◌++◌, length, Option, Some, None, IsTrue, refl, sym, ap, if◌then◌else◌}
 use Rattle.std.specs.List.{list_any}
+use Rattle.std.proofs.lemmas.Bool.{or_parts}
 use Rattle.store_traits.specs.Faults.{Rose}
 use Rattle.store_traits.specs.declared.ids.CallId.{CallId}
 use Rattle.folder_disk.specs.declared.folder.Folder as folder_trait
@@ -36,16 +37,12 @@ room_freed : (call : CallId) (owner : Option CallId) (room : ℕ) → room_of ca
 room_freed call None room = refl
 room_freed call (Some owner) room = freed_by (is_call call owner) call owner room refl
 
-neither : (x y : Bool) → (x || y) ≡ false → (x ≡ false) × (y ≡ false)
-neither false y none = (refl, none)
-neither true y none = absurd cc
-
 module _ {V T : Type 0} (call : CallId) where
   -- entries that are no Raise leave the version
   pub same_raises : (kinds : List (KindSeen V T)) (list : List (EntrySeen V T)) → list_any is_raise kinds ≡ false → raises_of (with_entries call kinds list) ≡ raises_of list
   same_raises [] list none = refl
   same_raises (kind ∷ kinds) list none =
-      let parts = neither (is_raise kind) (list_any is_raise kinds) none in
+      let parts = or_parts (is_raise kind) (list_any is_raise kinds) none in
       same_raises kinds (list ++ record { who = call; kind = kind } ∷ []) parts.1 ∙ raises_of-other list (record { who = call; kind = kind }) parts.0
 
 module _ {C F V T : Type 0} (f : folder_trait.Ghosts F) (origin : Origin) (at : At V T) (old new : ShelfSeen C F V T) where

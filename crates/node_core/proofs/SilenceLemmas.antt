@@ -2,7 +2,7 @@
 use Rattle.std.proofs.Common.{◌≡◌, ◌∙◌, ◌⊎◌, inl, inr, ⊎_elim, ◌==◌, ◌≤◌, ◌+◌, ◌&&◌, ◌||◌, not, nat_le, ℕ, Bool, true, false, List, [], ◌∷◌, ◌++◌, Option, Some, None, IfSome, length, drop, unwrap_or, append_assoc, append-nil, refl, sym, ap}
 use Rattle.std.specs.List.{list_any}
 use Rattle.std.proofs.Math.Bool.{or-false}
-use Rattle.std.proofs.lemmas.Bool.{eqb-true, or_parts}
+use Rattle.std.proofs.lemmas.Bool.{or_parts}
 use Rattle.std.proofs.lemmas.List.{drop-append-le}
 use Rattle.std.proofs.lemmas.List.Folds.{list_any-append}
 use Rattle.store_traits.specs.declared.ids.CallId.{CallId}
@@ -20,8 +20,9 @@ use Rattle.shelf.specs.Legal.{Legal}
 use Rattle.shelf.specs.Meanings.{Meanings}
 use Rattle.shelf.specs.Meanwhile.{NoDeathOf}
 use Rattle.shelf.specs.Places.{StandsAt, is_up_to}
-use Rattle.shelf.proofs.Bools.{never}
+use Rattle.shelf.proofs.Bools.{never, none_in_both}
 use Rattle.shelf.proofs.MeanwhileLemmas.{spared_parts}
+use Rattle.shelf.proofs.StepLemmas.{same_node}
 use Rattle.node_core.proofs.DeathCause.{IsSilent, dies}
 
 -- an element of two lists stands in the first or in the second
@@ -51,9 +52,6 @@ in_either (y ∷ ys) second (z ∷ zs) behind x is =
 -- where no element of two lists passes
 none_of_both : {X : Type 0} (p : X → Bool) (first second : List X) → list_any p (first ++ second) ≡ false → (list_any p first ≡ false) × (list_any p second ≡ false)
 none_of_both p first second none = or_parts (list_any p first) (list_any p second) (sym (list_any-append p first second) ∙ none)
-
-neither : {X : Type 0} (p : X → Bool) (first second : List X) → list_any p first ≡ false → list_any p second ≡ false → list_any p (first ++ second) ≡ false
-neither p first second none none_too = list_any-append p first second ∙ rw (none, none_too) refl
 
 module _ {V T : Type 0} where
   -- only a Death of the node kills it
@@ -98,7 +96,7 @@ module _ {V T : Type 0} where
     silent_first died before behind e passed last it =
         let spared = none_of_both (dies c.id.node) it.middle more (rw it.rest at last) in
         let death : StandsAt (dies c.id.node) (length before + 1) list = record { before = before; entry = e; behind = it.middle; is = it.front; counted = refl; passed = passed } in
-        rw it.rest (neither (is_up_to c.id) it.middle more (silent (died_before c.id.node c.since list more spared.1 within died) (length before + 1) death spared.0) alone)
+        rw it.rest (none_in_both (is_up_to c.id) it.middle more (silent (died_before c.id.node c.since list more spared.1 within died) (length before + 1) death spared.0) alone)
 
     silent_second : (behind : List (EntrySeen V T)) (e : EntrySeen V T) → InSecond more behind e → list_any (is_up_to c.id) behind ≡ false
     silent_second behind e it = (or_parts (is_up_to c.id e) (list_any (is_up_to c.id) behind) (none_of_both (is_up_to c.id) it.middle (e ∷ behind) (rw it.is at alone)).1).1
@@ -113,9 +111,6 @@ abbrev pub is_elsewhere : {V T : Type 0} → CallId → EntrySeen V T → Bool
 is_elsewhere call e = (call.client.0 == e.who.client.0) && not (is_node call.node e.who.node)
 
 module _ {V T M : Type 0} (m : Meanings V T) (s : Store V M) (call : CallId) where
-  same_node : (a b : NodeId) → is_node a b ≡ true → a ≡ b
-  same_node a b is = ap (λ (n : ℕ). let it : NodeId = record { 0 = n } in it) (eqb-true a.0 b.0 is)
-
   -- an entry of a living node is not of a client whose one node is dead
   not_told : (front : List (EntrySeen V T)) (e : EntrySeen V T) (same : Bool) (up_to : Bool) → (same && not (is_node call.node e.who.node)) ≡ false → is_dead call.node front ≡ true → is_dead e.who.node front ≡ false → (same && up_to) ≡ false
   not_told front e false up_to home dead lives = refl

@@ -1,47 +1,29 @@
 -- What a turn does to other calls: it adds entries of its own call alone, gives the lock to nobody else, and disturbs nothing of whoever owns the lock.
-use Rattle.std.proofs.Common.{◌≡◌, ◌∙◌, ◌⊎◌, inl, inr, ℕ, ◌==◌, Bool, true, false, ◌&&◌, List, [], ◌∷◌, ◌++◌, Option, Some, None, append_assoc, append-nil, refl, sym, ap, if◌then◌else◌, Result, Ok, Err}
+use Rattle.std.proofs.Common.{◌≡◌, ◌∙◌, ◌⊎◌, inl, inr, ℕ, ◌==◌, Bool, true, false, ◌&&◌, List, [], ◌∷◌, ◌++◌, Some, append-nil, refl, sym, ap, Result}
 use Rattle.std.specs.List.{list_any}
 use Rattle.std.proofs.lemmas.Bool.{eq-eqb}
 use Rattle.store_traits.specs.declared.ids.CallId.{CallId}
-use Rattle.store_traits.specs.declared.ids.NodeId.{NodeId}
 use Rattle.store_traits.specs.declared.update_error.UpdateError.{UpdateError}
-use Rattle.store_traits.specs.declared.update_error.UpdateError.TheVariants as error
 use Rattle.file_lock.specs.Owner.{IsAnother, freed_node}
-use Rattle.folder_disk.specs.Contents.{Contents}
-use Rattle.hist_journal.specs.declared.device.Device.TheVariants.{Folder}
 use Rattle.hist_journal.specs.declared.seen.EntrySeen.{EntrySeen}
 use Rattle.hist_journal.specs.declared.seen.KindSeen.{KindSeen}
-use Rattle.hist_journal.specs.declared.seen.KindSeen.TheVariants.{Raise, Fault, Death, Inited}
-use Rattle.hist_journal.specs.Kinds.{is_call, is_node}
+use Rattle.hist_journal.specs.declared.seen.KindSeen.TheVariants.{Death}
+use Rattle.hist_journal.specs.Kinds.{is_node}
 use Rattle.shelf.specs.declared.progress.Progress.{Progress}
-use Rattle.shelf.specs.declared.progress.Progress.TheVariants.{Moved, Blocked, Ended}
+use Rattle.shelf.specs.declared.progress.Progress.TheVariants.{Blocked}
 use Rattle.shelf.specs.declared.store.Store.{Store}
-use Rattle.shelf.specs.ApplyRow.{Applies}
 use Rattle.shelf.specs.CallOrder.{is_later}
-use Rattle.shelf.specs.Calls.{At, Call, First, ReadingFirst, Migrating, Finishing, Reading, Raising, Creating, Appending, SyncingScratch, Renaming, SyncingFolder, Gone, is_first, is_gone}
-use Rattle.shelf.specs.Effects.{Does, DoesLast, Fails, Stops, freed, with_entries}
+use Rattle.shelf.specs.Calls.{Call, is_gone}
 use Rattle.shelf.specs.Entries.{is_any, is_own}
-use Rattle.shelf.specs.ReadRows.{ReadRow, ToMigrations}
-use Rattle.shelf.specs.Turn.{Dies, EndsDead, EndsDying, Row, TurnBy, Turn, begin, has_died_by, dies_now}
+use Rattle.shelf.specs.Turn.{Dies, EndsDead, EndsDying, Turn, begin, has_died_by, dies_now}
 use Rattle.shelf.specs.World.{Rules, World, Turned}
 use Rattle.shelf.proofs.Bools.{never}
+use Rattle.shelf.proofs.GrowthLemmas.{IsOwn, all_added, dead_same, dying_dies, entries_of, none_passes, turn_own}
 use Rattle.shelf.proofs.StepLemmas.{turn_has_to_wait, turn_waits}
 use Rattle.node_core.specs.Between.{Between, Died, Undisturbed}
 use Rattle.node_core.specs.Knows.{Knows}
 use Rattle.node_core.specs.Phases.{is_holding}
-
--- whoever owns the lock once some calls are freed owned it before
-was_owner : (free : Bool) (owner other : CallId) → (if free then None else Some owner) ≡ Some other → Some owner ≡ Some other
-was_owner true owner other is = absurd (let no : ◌≡◌ {A = Option CallId} None (Some other) = is in cc)
-was_owner false owner other is = is
-
-freed_was : (call other : CallId) (owner : Option CallId) → freed call owner ≡ Some other → owner ≡ Some other
-freed_was call other None is = is
-freed_was call other (Some owner) is = was_owner (is_call call owner) owner other is
-
-freed_node_was : (node : NodeId) (other : CallId) (owner : Option CallId) → freed_node node owner ≡ Some other → owner ≡ Some other
-freed_node_was node other None is = is
-freed_node_was node other (Some owner) is = was_owner (owner.node.0 == node.0) owner other is
+use Rattle.node_core.proofs.MovingLemmas.{at_first}
 
 module _ {V T : Type 0} where
   -- entries of one call were added: no test sees them that sees no entry of that call
@@ -50,136 +32,19 @@ module _ {V T : Type 0} where
     pub added : now ≡ list ++ more
     pub unseen : (p : EntrySeen V T → Bool) → ((kind : KindSeen V T) → p (record { who = call; kind = kind }) ≡ false) → list_any p more ≡ false
 
-  own_more : (call : CallId) (kinds : List (KindSeen V T)) (list : List (EntrySeen V T)) → OwnMore call list (with_entries call kinds list)
-  own_more call [] list = record { more = []; added = sym (append-nil list); unseen = λ p none. refl }
-  own_more call (kind ∷ kinds) list =
-      let e : EntrySeen V T = record { who = call; kind = kind } in
-      let rest = own_more call kinds (list ++ e ∷ []) in
-      record { more = e ∷ rest.more; added = rest.added ∙ append_assoc list (e ∷ []) rest.more; unseen = λ p none. rw (none kind) (rest.unseen p none) }
-
-  module _ (t : Turned V T) where
-    -- the lock is given to nobody but the call
-    abbrev GivesNone : Type 0
-    GivesNone = (other : CallId) → t.world_after.owner ≡ Some other → (other ≡ t.call.id → ⊥) → t.world.owner ≡ Some other
-
-    -- the turn adds entries of its own call alone
-    record IsOwn : Type 0 where
-      pub kinds : List (KindSeen V T)
-      pub added : t.world_after.history ≡ with_entries t.call.id kinds t.world.history
-      pub told : t.world_after.told ≡ t.world.told
-      pub gives : GivesNone
-
-    own_with : (kinds : List (KindSeen V T)) (now : World V T) → t.world_after ≡ now → now.history ≡ with_entries t.call.id kinds t.world.history → now.told ≡ t.world.told
-        → ((other : CallId) → now.owner ≡ Some other → (other ≡ t.call.id → ⊥) → t.world.owner ≡ Some other) → IsOwn
-    own_with kinds now is added told gives =
-        record {
-          kinds = kinds;
-          added = ap (λ (w : World V T). w.history) is ∙ added;
-          told = ap (λ (w : World V T). w.told) is ∙ told;
-          gives = λ other owns unlike. gives other (sym (ap (λ (w : World V T). w.owner) is) ∙ owns) unlike;
-        }
-
-    keeps_owner : (kinds : List (KindSeen V T)) (now : World V T) → t.world_after ≡ now → now.history ≡ with_entries t.call.id kinds t.world.history → now.told ≡ t.world.told → now.owner ≡ t.world.owner → IsOwn
-    keeps_owner kinds now is added told owner = own_with kinds now is added told (λ other owns unlike. sym owner ∙ owns)
-
-    frees_owner : (kinds : List (KindSeen V T)) (now : World V T) → t.world_after ≡ now → now.history ≡ with_entries t.call.id kinds t.world.history → now.told ≡ t.world.told → now.owner ≡ freed t.call.id t.world.owner → IsOwn
-    frees_owner kinds now is added told owner = own_with kinds now is added told (λ other owns unlike. freed_was t.call.id other t.world.owner (sym owner ∙ owns))
-
-    does_own : {Makes : Contents → Contents → Type 0} {kinds : List (KindSeen V T)} {at : At V T} → Does t Makes kinds at → IsOwn
-    does_own {kinds = kinds} it = keeps_owner kinds _ it.world refl refl refl
-
-    last_own : {Makes : Contents → Contents → Type 0} {kinds : List (KindSeen V T)} → DoesLast t Makes kinds → IsOwn
-    last_own {kinds = kinds} it = frees_owner kinds _ it.world refl refl refl
-
-    fails_own : {Part : Contents → Contents → Type 0} → Fails t Part → IsOwn
-    fails_own it = frees_owner (Fault Folder t.world_after.faults ∷ []) _ it.world refl refl refl
-
-    stops_own : Stops t → IsOwn
-    stops_own it = frees_owner [] _ it.world refl refl refl
-
-    same_own : t.world_after ≡ t.world → IsOwn
-    same_own is = keeps_owner [] t.world is refl refl refl
-
-    dies_own : Dies t → IsOwn
-    dies_own it = own_with (Death t.call.id.node ∷ []) _ it.world refl refl (λ other owns unlike. freed_node_was t.call.id.node other t.world.owner owns)
-
-  dead_same : (t : Turned V T) (gave : Progress (Result ℕ UpdateError)) → EndsDead t gave → t.world_after ≡ t.world
-  dead_same t (Ended (Err (error.Died place))) it = it.1
-  dead_same t other it = absurd it
-
-  dying_dies : (t : Turned V T) (gave : Progress (Result ℕ UpdateError)) → EndsDying t gave → Dies t
-  dying_dies t (Ended (Err (error.Died place))) it = it.1
-  dying_dies t other it = absurd it
-
 module _ {V T M : Type 0} (r : Rules V T) (s : Store V M) where
   abbrev Gave : Type 0
   Gave = Progress (Result ℕ UpdateError)
 
-  read_own : (Then : V → Gave → Type 0) (t : Turned V T) (gave : Gave) → ((value : V) (gave : Gave) → Then value gave → IsOwn t) → ReadRow r s t Then gave → IsOwn t
-  read_own Then t (Ended (Err (error.StorageFault place))) rest it = fails_own t it.1
-  read_own Then t (Ended (Err (error.FileTooLong len))) rest it = last_own t it.1
-  read_own Then t (Ended (Err error.Corrupt)) rest it = last_own t it.2
-  read_own Then t (Ended (Err error.NoMemory)) rest it = last_own t it
-  read_own Then t other rest it = rest it.value other it.then
-
-  first_read_own : (edit : T) (t : Turned V T) (value : V) (gave : Gave) → ToMigrations r s t edit value gave → IsOwn t
-  first_read_own edit t value Moved it = does_own t it
-  first_read_own edit t value other it = absurd it
-
-  applies_own : (edit : T) (t : Turned V T) (value : V) (gave : Gave) → Applies r s t edit value gave → IsOwn t
-  applies_own edit t value Moved it = elim it [ inl writes ↦ does_own t writes.goes_on | inr keeps ↦ does_own t keeps.goes_on ]
-  applies_own edit t value (Ended (Err (error.Refused code edition))) it = last_own t it.2
-  applies_own edit t value (Ended (Err (error.ValueTooLong len))) it = last_own t it.1
-  applies_own edit t value other it = absurd it
-
-  row_own : (at : At V T) (t : Turned V T) (gave : Gave) → Row r s at t gave → IsOwn t
-  row_own (First edit) t Blocked it = same_own t it.world
-  row_own (First edit) t Moved it = own_with t [] _ it.world refl refl (λ other owns unlike. absurd (unlike (let same : Some t.call.id ≡ Some other = owns in cc)))
-  row_own (First edit) t (Ended (Err (error.HistoryFull entries weight))) it = stops_own t it.2
-  row_own (First edit) t (Ended (Err error.NoMemory)) it = stops_own t it.2
-  row_own (ReadingFirst edit) t gave it = read_own (ToMigrations r s t edit) t gave (first_read_own edit t) it
-  row_own (Migrating edit value) t Moved it = same_own t it.1.world
-  row_own (Migrating edit value) t (Ended (Err error.NoMemory)) it = stops_own t it
-  row_own (Finishing edit) t Moved it = frees_owner t (Inited t.call.id.node ∷ []) _ it.world refl refl refl
-  row_own (Reading edit) t gave it = read_own (Applies r s t edit) t gave (applies_own edit t) it
-  row_own (Raising plan) t Moved it = keeps_owner t (Raise ∷ []) _ it.world refl refl refl
-  row_own (Creating plan) t Moved it = does_own t it
-  row_own (Creating plan) t (Ended (Err (error.StorageFault place))) it = fails_own t it.1
-  row_own (Appending plan) t Moved it = does_own t it
-  row_own (Appending plan) t (Ended (Err (error.StorageFault place))) it = fails_own t it.1
-  row_own (SyncingScratch plan) t Moved it = does_own t it
-  row_own (SyncingScratch plan) t (Ended (Err (error.StorageFault place))) it = fails_own t it.1
-  row_own (Renaming plan) t Moved it = does_own t it
-  row_own (Renaming plan) t (Ended (Err (error.StorageFault place))) it = fails_own t it.1
-  row_own (SyncingFolder ending) t (Ended (Ok edition)) it = last_own t it.1
-  row_own (SyncingFolder ending) t (Ended (Err (error.NotDurable place))) it = fails_own t it.1
-  row_own at t other it = absurd it
-
-  own_by : (gone died dies : Bool) (t : Turned V T) (gave : Gave) → TurnBy r s gone died dies t gave → IsOwn t
-  own_by true died dies t gave it = absurd it
-  own_by false true dies t gave it = same_own t (dead_same t gave it)
-  own_by false false true t gave it = dies_own t (dying_dies t gave it)
-  own_by false false false t gave it = row_own t.call.at t gave it
-
-  turn_own : (t : Turned V T) (gave : Gave) → Turn r s t gave → IsOwn (begin t)
-  turn_own t gave it = own_by (is_gone t.call.at) (has_died_by (begin t)) (dies_now (begin t)) (begin t) gave it
-
   -- a turn adds entries of its own call alone
   pub turn_adds_own : (t : Turned V T) (gave : Gave) → Turn r s t gave → OwnMore t.call.id t.world.history t.world_after.history
   turn_adds_own t gave it =
-      let own = turn_own t gave it in
-      let new = own_more t.call.id own.kinds t.world.history in
-      record { more = new.more; added = own.added ∙ new.added; unseen = new.unseen }
+      let own = turn_own r s t gave it in
+      record { more = entries_of t.call.id own.kinds; added = own.added ∙ all_added t.call.id own.kinds t.world.history; unseen = none_passes t.call.id own.kinds }
 
   -- a turn gives the lock to nobody but its own call
   pub turn_owner : (t : Turned V T) (gave : Gave) → Turn r s t gave → (other : CallId) → t.world_after.owner ≡ Some other → (other ≡ t.call.id → ⊥) → t.world.owner ≡ Some other
-  turn_owner t gave it = (turn_own t gave it).gives
-
-  -- a call that owns nothing and goes on is at its first turn
-  at_first : (at : At V T) → is_holding at ≡ false → is_gone at ≡ false → is_first at ≡ true
-  at_first (First edit) free goes_on = refl
-  at_first Gone free goes_on = never (sym goes_on)
-  at_first other free goes_on = never (sym free)
+  turn_owner t gave it = (turn_own r s t gave it).gives
 
   module _ (other : Call V T) (t : Turned V T) (apart : (other.id.client.0 == t.call.id.client.0) ≡ false) where
     unlike : other.id ≡ t.call.id → ⊥
@@ -198,12 +63,11 @@ module _ {V T M : Type 0} (r : Rules V T) (s : Store V M) where
     -- where the other owns nothing
     spares_free : IsOwn t → is_holding other.at ≡ false → Between other t.world t.world_after
     spares_free own free =
-        let new = own_more t.call.id own.kinds t.world.history in
         record {
-          more = new.more;
-          grew = own.added ∙ new.added;
-          others = new.unseen (is_own is_any other.id) none_of;
-          numbers = new.unseen (is_later other.id) none_later;
+          more = entries_of t.call.id own.kinds;
+          grew = own.added ∙ all_added t.call.id own.kinds t.world.history;
+          others = none_passes t.call.id own.kinds (is_own is_any other.id) none_of;
+          numbers = none_passes t.call.id own.kinds (is_later other.id) none_later;
           told = own.told;
           held = λ holds. never (sym free ∙ holds);
         }
@@ -271,5 +135,5 @@ module _ {V T M : Type 0} (r : Rules V T) (s : Store V M) where
       by_own false free owns = spares_owner t gave it other apart (is_gone t.call.at) (has_died_by (begin t)) (dies_now (begin t)) refl refl refl free owns
 
       by_other : (b : Bool) → is_holding other.at ≡ b → Between other t.world t.world_after
-      by_other false free = spares_free other (begin t) apart (turn_own t gave it) free
+      by_other false free = spares_free other (begin t) apart (turn_own r s t gave it) free
       by_other true holds = by_own (is_holding t.call.at) refl (knows_other.holds holds).owns

@@ -8,6 +8,7 @@ use Rattle.shelf.specs.Effects.{freed}
 use Rattle.shelf.specs.Ledger.{LedgerSeen}
 use Rattle.shelf.specs.LockRow as row
 use Rattle.shelf.specs.LockRow.{most_entries}
+use Rattle.shelf.specs.PastBounds.{IsFull}
 use Rattle.shelf.specs.ShelfSeen.{ShelfSeen}
 use Rattle.shelf.specs.ShelfTurns.{Frees}
 use Rattle.shelf.specs.Takes.{HasNone, HasSpace, TakesLock}
@@ -41,8 +42,8 @@ module _ {C F V T : Type 0} (f : folder_trait.Ghosts F) (r : Rules V T) (origin 
       }
 
   -- a bound is reached
-  pub full_row : (at : At V T) (entries weight : ℕ) → HasNone origin.call entries weight lo → row.IsFull r old.store (turned f origin (First edit) old origin at new) entries weight
-  full_row at entries weight none = record { entries_now = rw was.list at none.entries_now; weight_now = none.weight_now ∙ weighs; bound = rw was.bounds at none.bound }
+  pub full_row : (entries weight : ℕ) → HasNone origin.call entries weight lo → IsFull r old.store entries weight old.list
+  full_row entries weight none = record { entries_then = rw was.list at none.entries_now; weight_then = none.weight_now ∙ weighs; bound = rw was.bounds at none.bound }
 
 -- a ledger that stayed, and then a lock that is freed
 pub stays_then_frees : {C F V T : Type 0} (call : CallId) (old mid new : ShelfSeen C F V T) (lo lm : LedgerSeen V T) → IsOf lo old → IsOf lm mid → lm ≡ lo → mid.codec ≡ old.codec → mid.store ≡ old.store → Frees call [] mid new → Frees call [] old new

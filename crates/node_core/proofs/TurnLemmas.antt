@@ -9,10 +9,7 @@ use Rattle.store_traits.specs.declared.transform.Transform as transform_trait
 use Rattle.store_traits.specs.declared.update_error.UpdateError.{UpdateError}
 use Rattle.folder_disk.specs.declared.folder.Folder as folder_trait
 use Rattle.hist_journal.specs.declared.seen.EntrySeen.{EntrySeen}
-use Rattle.hist_journal.specs.declared.seen.KindSeen.{KindSeen}
-use Rattle.hist_journal.specs.declared.seen.KindSeen.TheVariants.{Death}
 use Rattle.hist_journal.specs.Folds.{edition_of}
-use Rattle.hist_journal.specs.Kinds.{is_death_of}
 use Rattle.hist_journal.specs.Nodes.{is_ready}
 use Rattle.shelf.specs.declared.progress.Progress.{Progress}
 use Rattle.shelf.specs.declared.progress.Progress.TheVariants.{Moved, Blocked, Ended}
@@ -23,8 +20,7 @@ use Rattle.shelf.specs.ShelfSeen.{ShelfSeen}
 use Rattle.shelf.specs.Turn.{Turn, begin, dies_now, has_died_by}
 use Rattle.shelf.specs.World.{Turned, World}
 use Rattle.shelf.proofs.Bools.{never}
-use Rattle.shelf.proofs.RaiseLemmas.{none_of_fewer}
-use Rattle.shelf.proofs.DeathLemmas.{has_not_died}
+use Rattle.shelf.proofs.DeathLemmas.{has_not_died, none_of_node}
 use Rattle.shelf.proofs.StepLemmas.{turn_waits}
 use Rattle.node_core.specs.declared.origin.Origin.{Origin}
 use Rattle.node_core.specs.Own.{IsFor}
@@ -51,11 +47,7 @@ begun origin entries = record { call = origin.call; since = Some (unwrap_or orig
 spares_node : {V T : Type 0} (node : NodeId) (list more : List (EntrySeen V T)) → list_any (λ (e : EntrySeen V T). is_death e.kind) (list ++ more) ≡ false → NoDeathOf node more
 spares_node {V} {T} node list more alive =
     let parts = or_parts (list_any (λ (e : EntrySeen V T). is_death e.kind) list) (list_any (λ (e : EntrySeen V T). is_death e.kind) more) (sym (list_any-append (λ (e : EntrySeen V T). is_death e.kind) list more) ∙ alive) in
-    none_of_fewer (λ (e : EntrySeen V T). is_death_of node e.kind) (λ (e : EntrySeen V T). is_death e.kind) more (λ e none. spares e.kind none) parts.1
-  where
-    spares : (kind : KindSeen V T) → is_death kind ≡ false → is_death_of node kind ≡ false
-    spares (Death died) none = never (sym none)
-    spares other none = refl
+    none_of_node node more parts.1
 
 -- a first turn does not end an initialisation
 once : {V T : Type 0} (initialised : Bool) (at : At V T) → is_first at ≡ true → (initialised || is_finishing at) ≡ true → initialised ≡ true

@@ -1,9 +1,10 @@
 -- What comes of the value that an update read.
-use Rattle.std.specs.Prelude.{◌≡◌, ◌≢◌, ◌<◌, ◌-◌, ◌^◌, ℕ, List, length, min, Option, Some, None, Result, Ok, Err}
+use Rattle.std.specs.Prelude.{◌≡◌, ◌≢◌, ℕ, List, Option, Some, None, Result, Ok, Err}
 use Rattle.store_traits.specs.declared.applied.Applied.TheVariants.{Changed, Refused}
 use Rattle.store_traits.specs.declared.update_error.UpdateError.{UpdateError}
 use Rattle.store_traits.specs.declared.update_error.UpdateError.TheVariants as error
 use Rattle.shelf.specs.declared.store.Store.{Store}
+use Rattle.shelf.specs.PastBounds.{IsPastLimit}
 use Rattle.shelf.specs.Plans.{Writes}
 use Rattle.shelf.specs.World.{Rules}
 
@@ -19,12 +20,11 @@ module _ {V T M : Type 0} (r : Rules V T) (IsValue : V → Type 0) (s : Store V 
     pub other : MakesOther new
     pub writes : Writes r IsValue s new plan
 
-  -- or whose text, of this length, is too long
+  -- or whose text has this length and is too long
   pub record MakesTooLong (len : ℕ) : Type 0 where
     pub new : V
     pub other : MakesOther new
-    pub is : len ≡ min (length (r.encoded new)) (2 ^ 64 - 1)
-    pub past : s.limits.file < len
+    pub long : IsPastLimit r s new len
 
   -- a plan, or none where the edit keeps the value; or why there is none. `edition` is that of the value
   abbrev pub AppliedRow : ℕ → Result (Option (List ℕ)) UpdateError → Type 0

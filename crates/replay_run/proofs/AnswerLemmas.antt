@@ -9,7 +9,7 @@ use Rattle.store_traits.specs.declared.update_error.UpdateError.{UpdateError}
 use Rattle.store_traits.specs.declared.update_error.UpdateError.TheVariants as error
 use Rattle.hist_journal.specs.declared.seen.EntrySeen.{EntrySeen}
 use Rattle.hist_journal.specs.Folds.{edition_of}
-use Rattle.hist_journal.proofs.ClearingLemmas.{last_or_before, longer}
+use Rattle.hist_journal.proofs.ClearingLemmas.{longer}
 use Rattle.hist_journal.proofs.FoldLemmas.{edition_of-append}
 use Rattle.shelf.specs.declared.store.Store.{Store}
 use Rattle.shelf.specs.Causes.{HasCause}
@@ -23,14 +23,6 @@ use Rattle.script_lang.specs.Each.{Each}
 use Rattle.replay_run.specs.ClientKeeps.{IsExplained, IsTrueAnswer, KeepsClient, KeepsRunning}
 use Rattle.replay_run.specs.Scene.{Answered, Client, call_of}
 use Rattle.replay_run.specs.ShownByAnswers.{shown_by, shown_of}
-
--- one more element of which it holds
-pub each-push : {X : Type 0} (Holds : List X → X → Type 0) (list : List X) (last : X) → Each Holds list → Holds list last → Each Holds (list ++ last ∷ [])
-each-push Holds list last each here before x behind is =
-    elim (last_or_before list before behind last x is) [
-      | inl it ↦ (rw (it.0, it.1) here)
-      | inr it ↦ each before x it.0 it.1
-    ]
 
 module _ {V T : Type 0} where
   front_edition : (list front back : List (EntrySeen V T)) → list ≡ front ++ back → edition_of front ≤ edition_of list

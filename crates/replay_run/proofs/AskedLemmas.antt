@@ -1,6 +1,6 @@
 -- The calls that the lines of a script ask for are those of the orders.
 use Rattle.std.proofs.Common.{◌≡◌, ◌∙◌, ◌⊎◌, inl, inr, ◌+◌, ◌==◌, ℕ, suc, zero, Bool, true, false, List, [], ◌∷◌, ◌++◌, map, cond, Contains, Option, Some, None, option_map, count_by, slice_get, refl, sym, ap, subst, arith, if◌then◌else◌}
-use Rattle.std.proofs.lemmas.Bool.{eq-eqb, eqb-true}
+use Rattle.std.proofs.lemmas.Bool.{eq-eqb, eqb-true, and_right, ne_eqb}
 use Rattle.std.proofs.lemmas.List.Sums.{sum_by_push}
 use Rattle.store_traits.specs.declared.ids.CallId.{CallId}
 use Rattle.store_traits.specs.declared.ids.ClientId.{ClientId}
@@ -14,8 +14,6 @@ use Rattle.replay_run.specs.Order.{Go, Order, Task, Update, edits_for, task_edit
 use Rattle.replay_run.specs.ScriptRun.{order_of, task_of}
 use Rattle.shelf.proofs.Bools.{never}
 use Rattle.replay_run.proofs.LineLemmas.{nothing, one_of}
-use Rattle.replay_run.proofs.BeginKeeps.{second_none}
-use Rattle.replay_run.proofs.TurnKeeps.{unequal}
 
 contains_more : {X : Type 0} (xs : List X) (y x : X) → Contains xs x → Contains (y ∷ xs) x
 contains_more xs y x at = (suc at.0, (let within = at.1 in omega (arith, within)), at.2)
@@ -50,7 +48,7 @@ count_push p xs x = sum_by_push (λ x. cond (p x) 1 0) xs x
 -- whether an order is for a client, and whether its line is
 pub same_client : (place at client : ℕ) (b : Bool) → place ≡ at → (place == client) ≡ b → (client == at) ≡ b
 same_client place at client true own is = eq-eqb client at (sym (eqb-true place client is) ∙ own)
-same_client place at client false own is = unequal client at (λ same. never (sym is ∙ eq-eqb place client (own ∙ sym same)))
+same_client place at client false own is = ne_eqb client at (λ same. never (sym is ∙ eq-eqb place client (own ∙ sym same)))
 
 module _ (script : Script) (client : ℕ) where
   abbrev number_from : List RunLine → ℕ → ℕ
@@ -111,10 +109,10 @@ module _ (script : Script) (client : ℕ) where
     asked_step n true here (inr goes) found =
         let call : is_call_line line ≡ false = ap is_call_act goes.1 in
         let now : slice_get (edits_for client later) n ≡ Some edit = subst (λ t. slice_get (task_edits t ++ edits_for client later) n ≡ Some edit) goes.2 found in
-        subst (λ b. Contains (list_now b) (asks before n edit)) (sym call) (renumbered list before line false n n edit (second_none (client == line.client.0) (is_call_line line) call) (omega arith) (deeper n now))
+        subst (λ b. Contains (list_now b) (asks before n edit)) (sym call) (renumbered list before line false n n edit (and_right (client == line.client.0) (is_call_line line) call) (omega arith) (deeper n now))
     asked_step n false apart (inr goes) found =
         let call : is_call_line line ≡ false = ap is_call_act goes.1 in
-        subst (λ b. Contains (list_now b) (asks before n edit)) (sym call) (renumbered list before line false n n edit (second_none (client == line.client.0) (is_call_line line) call) (omega arith) (deeper n found))
+        subst (λ b. Contains (list_now b) (asks before n edit)) (sym call) (renumbered list before line false n n edit (and_right (client == line.client.0) (is_call_line line) call) (omega arith) (deeper n found))
 
   -- the edit with this number among those of the client is asked for
   pub asked_for : (lines : List RunLine) (orders : List (Order (List EditStep))) (before : List RunLine) (n : ℕ) (edit : List EditStep) → map order_of lines ≡ map (λ order. Some order) orders

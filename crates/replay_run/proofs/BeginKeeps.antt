@@ -1,7 +1,7 @@
 -- A scene keeps what it keeps as a client is asked for more, and as its next call begins.
 use Rattle.std.proofs.Common.{◌≡◌, ◌∙◌, inl, inr, ◌≤◌, ◌+◌, ◌==◌, ◌&&◌, ℕ, nat_lt, Bool, true, false, List, All, length, Option, Some, None, slice_get, slice_set, refl, sym, ap, arith}
 use Rattle.std.specs.List.{list_any}
-use Rattle.std.proofs.lemmas.Bool.{eqb-true, eq-eqb}
+use Rattle.std.proofs.lemmas.Bool.{eqb-true, eq-eqb, and_right}
 use Rattle.std.proofs.lemmas.Bool.Decides.{nat_tests}
 use Rattle.std.proofs.lemmas.List.Elements.{All-weaker}
 use Rattle.std.proofs.lemmas.List.Folds.{list_any_none}
@@ -36,12 +36,8 @@ number_apart begun number others within = grind (arith, nat_tests, within)
 not_later : (begun number : ℕ) → number ≤ begun → nat_lt (begun + 1) number ≡ false
 not_later begun number within = grind (arith, nat_tests, within)
 
-pub second_none : (x y : Bool) → y ≡ false → (x && y) ≡ false
-second_none true y none = none
-second_none false y none = refl
-
 pub middle_none : (x y z : Bool) → y ≡ false → ((x && y) && z) ≡ false
-middle_none x y z none = rw (second_none x y none) refl
+middle_none x y z none = rw (and_right x y none) refl
 
 module _ {V T : Type 0} (clients : List (Client V T)) (place : ℕ) (client : Client V T) (found : slice_get clients place ≡ Some client) (stands : client.id.0 ≡ place) where
   abbrev next : CallId
@@ -57,7 +53,7 @@ module _ {V T : Type 0} (clients : List (Client V T)) (place : ℕ) (client : Cl
           let here : e.who.client.0 ≡ place = sym there ∙ stands in
           let same : of.client ≡ client = one_of_it (slice_get clients place) of.client client (rw (← here) of.found) found in
           let begun : e.who.number ≤ client.begun = rw same at of.begun in
-          (number_apart client.begun e.who.number _ begun, second_none (client.id.0 == e.who.client.0) _ (not_later client.begun e.who.number begun))
+          (number_apart client.begun e.who.number _ begun, and_right (client.id.0 == e.who.client.0) _ (not_later client.begun e.who.number begun))
       by_client false is = (middle_none (client.node.0 == e.who.node.0) (client.id.0 == e.who.client.0) (client.begun + 1 == e.who.number) is, rw is refl)
 
   none_own : (is_kind : KindSeen V T → Bool) (list : List (EntrySeen V T)) → All (IsOfCall clients) list → list_any (is_own is_kind next) list ≡ false

@@ -14,6 +14,7 @@ use Rattle.shelf.specs.declared.store.Store.{Store}
 use Rattle.shelf.specs.Calls.{Call}
 use Rattle.shelf.specs.ShelfSeen.{shelf_seen}
 use Rattle.shelf.specs.World.{Rules, World}
+use Rattle.shelf.proofs.StepLemmas.{same_call}
 use Rattle.node_core.specs.Views.{room_of}
 use Rattle.replay_run.specs.declared.client.Client as own
 use Rattle.replay_run.specs.declared.prefs_parts.PrefsParts.{PrefsParts}
@@ -22,7 +23,6 @@ use Rattle.replay_run.specs.Scene.{Client, call_of}
 use Rattle.replay_run.specs.StageView.{Change, EquippedIn, Running, Value, call_in, client_in, running_seen}
 use Rattle.replay_run.specs.Step.{at_work, begin_next, new_call}
 use Rattle.replay_run.proofs.ClientTurns.{at_work_same}
-use Rattle.replay_run.proofs.ReplacedClient.{same_call}
 
 -- whoever does not own the lock has no room
 pub room_other : (call : CallId) (owner : Option CallId) (room : ℕ) → (owner ≡ Some call → ⊥) → room_of call owner room ≡ 0

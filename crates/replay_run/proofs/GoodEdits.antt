@@ -3,6 +3,7 @@ use Rattle.std.proofs.Common.{◌≡◌, ◌∙◌, ◌⊎◌, inl, inr, ◌≤�
 use Rattle.std.specs.List.{list_any}
 use Rattle.std.proofs.lemmas.List.Elements.{All-append, All-cons, All-nil}
 use Rattle.std.proofs.lemmas.Option.{slice_get_cases}
+use Rattle.std.proofs.lemmas.Bool.{or_parts as no_part, and_parts as both_parts}
 use Rattle.store_traits.specs.declared.ids.CallId.{CallId}
 use Rattle.store_traits.specs.declared.ids.ClientId.{ClientId}
 use Rattle.store_traits.specs.declared.ids.NodeId.{NodeId}
@@ -23,7 +24,7 @@ use Rattle.shelf.specs.Causes.{HasCause}
 use Rattle.shelf.specs.Entries.{is_any, is_own, is_update}
 use Rattle.shelf.specs.Images.{is_synced}
 use Rattle.shelf.specs.Places.{is_fault_of}
-use Rattle.shelf.proofs.Bools.{both_parts, never}
+use Rattle.shelf.proofs.Bools.{never}
 use Rattle.shelf.proofs.StepLemmas.{itself}
 use Rattle.script_lang.specs.declared.script.Script.{Script}
 use Rattle.script_lang.specs.Asked.{asked_by}
@@ -42,7 +43,6 @@ use Rattle.replay_run.proofs.GoodCalls.{acknowledged, entry_of, errors_caused}
 use Rattle.replay_run.proofs.GoodHistory.{none_stands, smooth_fails_none}
 use Rattle.replay_run.proofs.GoodSession.{IsToldOf, told_of, true_answer}
 use Rattle.replay_run.proofs.LineLemmas.{line_tells, result_parts}
-use Rattle.replay_run.proofs.OwnTurns.{no_part}
 use Rattle.replay_run.proofs.OverLemmas.{all_answered}
 use Rattle.replay_run.proofs.StandLemmas.{Stands, all_at, contains_at, found_stands, read_from, stands_joined}
 

@@ -3,6 +3,7 @@ use Rattle.std.proofs.Common.{◌≡◌, ◌∙◌, Bool, false, List, [], ◌�
 use Rattle.std.specs.List.{list_any}
 use Rattle.std.proofs.lemmas.List.Folds.{list_any-append}
 use Rattle.std.proofs.lemmas.List.Sums.{sum_by-cons}
+use Rattle.std.proofs.lemmas.Bool.{and_right as second_none, or_parts as no_part}
 use Rattle.store_traits.specs.declared.ids.CallId.{CallId}
 use Rattle.prefs_edit.specs.declared.edit_step.EditStep.{EditStep}
 use Rattle.prefs_model.specs.declared.pref_pair.PrefPair.{PrefPair}
@@ -29,9 +30,7 @@ use Rattle.replay_run.specs.Scene.{Scene}
 use Rattle.replay_run.specs.SceneKeeps.{SceneKeeps, is_rough}
 use Rattle.replay_run.specs.ScriptRun.{Tells, result_of}
 use Rattle.replay_run.proofs.GoodSession.{told_of}
-use Rattle.replay_run.proofs.OwnTurns.{no_part}
 use Rattle.replay_run.proofs.LineLemmas.{nothing}
-use Rattle.replay_run.proofs.BeginKeeps.{second_none}
 
 pub none_stands : {X : Type 0} (p : X → Bool) (list before behind : List X) (x : X) → list_any p list ≡ false → list ≡ before ++ x ∷ behind → p x ≡ false
 none_stands p list before behind x none is =

@@ -1,7 +1,7 @@
 -- Each call of a client is answered once, in the order of its lines.
 use Rattle.std.proofs.Common.{◌≡◌, ◌∙◌, ◌⊎◌, inl, inr, ◌+◌, ◌<◌, ◌==◌, ℕ, suc, zero, Bool, true, false, List, [], ◌∷◌, ◌++◌, map, flat_map, length, cond, All, Some, count_by, append_assoc, append-nil, length-append, slice_get, refl, sym, ap, subst, arith, if◌then◌else◌}
 use Rattle.std.specs.List.{filter}
-use Rattle.std.proofs.lemmas.Bool.{eq-eqb, eqb-true}
+use Rattle.std.proofs.lemmas.Bool.{eq-eqb, eqb-true, and_right, ne_eqb}
 use Rattle.std.proofs.lemmas.List.Elements.{All-head, All-tail, All-weaker, filter-append}
 use Rattle.std.proofs.lemmas.Option.{slice_get_cases}
 use Rattle.store_traits.specs.declared.ids.CallId.{CallId}
@@ -24,12 +24,10 @@ use Rattle.replay_run.specs.Scene.{Answered, Client, Scene}
 use Rattle.replay_run.specs.SceneKeeps.{SceneKeeps}
 use Rattle.replay_run.specs.ScriptRun.{Tells, all_answers, answered_of, order_of}
 use Rattle.replay_run.proofs.AskedLemmas.{act_is, count_push, order_is, same_client}
-use Rattle.replay_run.proofs.BeginKeeps.{second_none}
 use Rattle.replay_run.proofs.GoodCalls.{client_home}
 use Rattle.replay_run.proofs.GoodSession.{all_each, all_flat}
 use Rattle.replay_run.proofs.LineLemmas.{line_tells, one_of}
 use Rattle.replay_run.proofs.OverLemmas.{all_answered}
-use Rattle.replay_run.proofs.TurnKeeps.{unequal}
 
 filter_all : {X : Type 0} (p : X → Bool) (xs : List X) → All (λ x. p x ≡ true) xs → filter p xs ≡ xs
 filter_all p [] all = refl
@@ -72,12 +70,12 @@ own_answers {V = V} {T = T} (c ∷ cs) first zero who client found is owned =
     filter_none (λ (a : Answered). who == a.call.client.0) (flat_map (λ (c : Client V T). c.answered) cs)
     (all_flat (λ (a : Answered). (who == a.call.client.0) ≡ false) (λ (c : Client V T). c.answered) cs
     (λ p d there.
-    All-weaker (λ (a : Answered). a.call.client.0 ≡ first + suc p) (λ (a : Answered). (who == a.call.client.0) ≡ false) (λ a own. unequal who a.call.client.0 (λ equal. omega (arith, own, is, equal))) d.answered (owned (suc p) d there))) in
+    All-weaker (λ (a : Answered). a.call.client.0 ≡ first + suc p) (λ (a : Answered). (who == a.call.client.0) ≡ false) (λ a own. ne_eqb who a.call.client.0 (λ equal. omega (arith, own, is, equal))) d.answered (owned (suc p) d there))) in
     filter-append (λ (a : Answered). who == a.call.client.0) c.answered (flat_map (λ (c : Client V T). c.answered) cs) ∙ (rw (mine, others) (append-nil c.answered ∙ ap (λ (x : Client V T). x.answered) same))
 own_answers {V = V} {T = T} (c ∷ cs) first (suc place) who client found is owned =
     let others : filter (λ (a : Answered). who == a.call.client.0) c.answered ≡ [] =
     filter_none (λ (a : Answered). who == a.call.client.0) c.answered
-    (All-weaker (λ (a : Answered). a.call.client.0 ≡ first + 0) (λ (a : Answered). (who == a.call.client.0) ≡ false) (λ a own. unequal who a.call.client.0 (λ equal. omega (arith, own, is, equal))) c.answered (owned 0 c refl)) in
+    (All-weaker (λ (a : Answered). a.call.client.0 ≡ first + 0) (λ (a : Answered). (who == a.call.client.0) ≡ false) (λ a own. ne_eqb who a.call.client.0 (λ equal. omega (arith, own, is, equal))) c.answered (owned 0 c refl)) in
     let deeper = own_answers cs (first + 1) place who client found (omega (arith, is))
     (λ p d there. All-weaker (λ (a : Answered). a.call.client.0 ≡ first + suc p) (λ (a : Answered). a.call.client.0 ≡ first + 1 + p) (λ a own. omega (arith, own)) d.answered (owned (suc p) d there)) in
     filter-append (λ (a : Answered). who == a.call.client.0) c.answered (flat_map (λ (c : Client V T). c.answered) cs) ∙ (rw others deeper)
@@ -158,12 +156,12 @@ module _ (script : Script) (client : ℕ) where
         subst (λ b. own_calls (list_now b) ≡ map own_call (count_from (next_number before) (length (edits_for client later)))) (sym call) (rw (mine false apart) (others_on other))
     asked_line true here (inr goes) =
         let call : is_call_line line ≡ false = ap is_call_act goes.1 in
-        let other : is_call_line_of who line ≡ false = second_none (client == line.client.0) (is_call_line line) call in
+        let other : is_call_line_of who line ≡ false = and_right (client == line.client.0) (is_call_line line) call in
         subst (λ b. own_calls (list_now b) ≡ map own_call (count_from (next_number before) (length (task_edits order.task ++ edits_for client later)))) (sym call)
         (subst (λ t. own_calls list ≡ map own_call (count_from (next_number before) (length (task_edits t ++ edits_for client later)))) (sym goes.2) (others_on other))
     asked_line false apart (inr goes) =
         let call : is_call_line line ≡ false = ap is_call_act goes.1 in
-        let other : is_call_line_of who line ≡ false = second_none (client == line.client.0) (is_call_line line) call in
+        let other : is_call_line_of who line ≡ false = and_right (client == line.client.0) (is_call_line line) call in
         subst (λ b. own_calls (list_now b) ≡ map own_call (count_from (next_number before) (length (edits_for client later)))) (sym call) (others_on other)
 
   -- the calls of the lines of a client are numbered in their order, one for each of its edits

@@ -1,5 +1,6 @@
 -- The transcript of a run tells the truth of its script.
 use Rattle.std.proofs.Common.{◌≡◌, ◌∙◌, ℕ, true, false, List, [], ◌∷◌, length, None, is_some, refl, sym, ap, subst, Result, Ok, Err}
+use Rattle.std.proofs.lemmas.Bool.{ne_eqb as unequal}
 use Rattle.std.specs.List.{filter}
 use Rattle.store_traits.specs.declared.ids.CallId.{CallId}
 use Rattle.store_traits.specs.declared.ids.ClientId.{ClientId}
@@ -39,7 +40,6 @@ use Rattle.replay_run.proofs.GoodSession.{all_each, gives_values, keeps_fresh, t
 use Rattle.replay_run.proofs.OverLemmas.{all_answered}
 use Rattle.replay_run.proofs.RunClients.{run_clients}
 use Rattle.replay_run.proofs.ServedOrders.{run_serves}
-use Rattle.replay_run.proofs.TurnKeeps.{unequal}
 
 -- what is kept in the end is kept of an alike store too
 module _ {V T M : Type 0} (r : Rules V T) (s t : Store V M) (alike : IsAlike s t) where

@@ -2,6 +2,7 @@
 use Rattle.std.proofs.Common.{◌≡◌, ◌∙◌, ◌≤◌, ◌<◌, ◌==◌, ℕ, suc, zero, false, List, [], ◌∷◌, ◌++◌, map, flat_map, length, All, Option, Some, None, IfSome, append_assoc, slice_get, refl, sym, ap, subst, arith, Result}
 use Rattle.std.proofs.lemmas.List.Elements.{All-append, All-cons, All-nil, All-weaker}
 use Rattle.std.proofs.lemmas.Option.{IfSome_then, slice_get_within}
+use Rattle.std.proofs.lemmas.Bool.{ne_eqb as unequal}
 use Rattle.store_traits.specs.declared.ids.CallId.{CallId}
 use Rattle.store_traits.specs.declared.update_error.UpdateError.{UpdateError}
 use Rattle.prefs_edit.specs.declared.edit_step.EditStep.{EditStep}
@@ -19,7 +20,6 @@ use Rattle.replay_run.specs.SceneKeeps.{SceneKeeps}
 use Rattle.replay_run.specs.ScriptRun.{Tells, all_answers, answered_of, result_of}
 use Rattle.replay_run.specs.ShownByAnswers.{printed_by, shown_of}
 use Rattle.replay_run.proofs.LineLemmas.{Reads, line_tells, nothing, same_print, shown_past}
-use Rattle.replay_run.proofs.TurnKeeps.{unequal}
 use Rattle.replay_run.proofs.ToldAnswers.{reads_at, split_all}
 
 pub all_flat : {X Y : Type 0} (P : Y → Type 0) (f : X → List Y) (xs : List X) → ((place : ℕ) (x : X) → slice_get xs place ≡ Some x → All P (f x)) → All P (flat_map f xs)

@@ -4,6 +4,7 @@ use Rattle.std.specs.List.{enumerate_from, range_with_len}
 use Rattle.std.proofs.lemmas.Bool.Decides.{nat_tests}
 use Rattle.std.proofs.lemmas.List.{length-take-le, map_push, take_more}
 use Rattle.std.proofs.lemmas.List.Elements.{All-nil, All-cons, All-head, All-push, All-tail}
+use Rattle.std.proofs.lemmas.Bool.{or_from as either_false}
 use Rattle.store_traits.specs.declared.codec.Codec as codec_trait
 use Rattle.store_traits.specs.declared.ids.NodeId.{NodeId}
 use Rattle.store_traits.specs.declared.transform.Transform as transform_trait
@@ -23,9 +24,6 @@ use Rattle.replay_run.specs.StageView.{Change, EquippedIn, IsEquipped, Running, 
 -- the nodes with so many numbers from this one on
 abbrev nodes_from : ℕ → ℕ → List NodeId
 nodes_from first count = map (λ number. record { 0 = number }) (range_with_len first count)
-
-either_false : (a b : Bool) → a ≡ false → b ≡ false → (a || b) ≡ false
-either_false a b a_is b_is = rw a_is b_is
 
 else_true : (a b : Bool) → (a ≡ false → b ≡ true) → (a || b) ≡ true
 else_true true b rest = refl

@@ -1,7 +1,6 @@
 -- What a turn of a call leaves where no node has died: entries of its own, and the lock with it, free or as it was.
-use Rattle.std.proofs.Common.{◌≡◌, ◌∙◌, ◌⊎◌, inl, inr, ◌==◌, ℕ, Bool, true, false, ◌||◌, List, [], ◌∷◌, ◌++◌, map, drop, length, Option, Some, None, IfSome, unwrap_or, append_assoc, append-nil, refl, sym, ap, arith, if◌then◌else◌, Result, Ok, Err}
+use Rattle.std.proofs.Common.{◌≡◌, ◌∙◌, inl, inr, ℕ, Bool, true, false, List, [], ◌∷◌, ◌++◌, map, Option, Some, None, IfSome, refl, sym, ap, arith, Result, Ok, Err}
 use Rattle.std.specs.List.{list_any}
-use Rattle.std.specs.Option.{option_or}
 use Rattle.std.proofs.lemmas.Bool.{eq-eqb}
 use Rattle.store_traits.specs.Faults.{Rose}
 use Rattle.store_traits.specs.declared.ids.CallId.{CallId}
@@ -12,17 +11,17 @@ use Rattle.folder_disk.specs.Contents.{Contents}
 use Rattle.hist_journal.specs.declared.device.Device.TheVariants.{Folder}
 use Rattle.hist_journal.specs.declared.seen.EntrySeen.{EntrySeen}
 use Rattle.hist_journal.specs.declared.seen.KindSeen.{KindSeen}
-use Rattle.hist_journal.specs.declared.seen.KindSeen.TheVariants.{Raise, Fault, Death, Inited}
+use Rattle.hist_journal.specs.declared.seen.KindSeen.TheVariants.{Raise, Fault, Inited}
 use Rattle.hist_journal.specs.Folds.{edition_of}
-use Rattle.hist_journal.specs.Nodes.{is_ready, last_mark, ready_mark, mark_if}
-use Rattle.hist_journal.specs.Kinds.{is_call, is_node}
-use Rattle.hist_journal.proofs.NodeLemmas.{is_ready-push, last_mark-append}
+use Rattle.hist_journal.specs.Nodes.{is_ready}
+use Rattle.hist_journal.specs.Kinds.{is_node}
+use Rattle.hist_journal.proofs.NodeLemmas.{is_ready-push}
 use Rattle.shelf.specs.declared.progress.Progress.{Progress}
 use Rattle.shelf.specs.declared.progress.Progress.TheVariants.{Moved, Blocked, Ended}
 use Rattle.shelf.specs.declared.store.Store.{Store}
 use Rattle.shelf.specs.ApplyRow.{Applies}
-use Rattle.shelf.specs.Calls.{At, First, ReadingFirst, Migrating, Finishing, Reading, Raising, Creating, Appending, SyncingScratch, Renaming, SyncingFolder, Gone, Plan, is_first, is_gone}
-use Rattle.shelf.specs.Effects.{Does, DoesLast, Fails, Stops, freed, is_ready_now, with_entries}
+use Rattle.shelf.specs.Calls.{At, First, ReadingFirst, Migrating, Finishing, Reading, Raising, Creating, Appending, SyncingScratch, Renaming, SyncingFolder, Gone, is_gone}
+use Rattle.shelf.specs.Effects.{Does, DoesLast, Fails, Stops, with_entries}
 use Rattle.shelf.specs.Endings.{synced_kinds}
 use Rattle.shelf.specs.Entries.{is_death}
 use Rattle.shelf.specs.LastRows.{kept_edit}
@@ -30,28 +29,18 @@ use Rattle.shelf.specs.LockRow.{Waits}
 use Rattle.shelf.specs.ReadRows.{ReadRow, ToMigrations}
 use Rattle.shelf.specs.Turn.{Row, Turn, TurnBy, begin, dies_now, has_died_by}
 use Rattle.shelf.specs.World.{Rules, World, Turned}
-use Rattle.shelf.specs.WriteRows.{piece_written}
 use Rattle.shelf.proofs.Bools.{never}
-use Rattle.shelf.proofs.DeathLemmas.{has_not_died}
-use Rattle.shelf.proofs.StepLemmas.{ended_leaves, itself}
+use Rattle.shelf.proofs.DeathLemmas.{has_not_died, none_of_node}
+use Rattle.shelf.proofs.GrowthLemmas.{all_added, entries_of}
+use Rattle.shelf.proofs.StepLemmas.{ended_leaves, not_freed}
 use Rattle.node_core.specs.Knows.{Knows}
 use Rattle.node_core.specs.Phases.{is_finishing, is_holding}
 use Rattle.node_core.specs.Plans.{PlanAt}
 use Rattle.node_core.proofs.KeepingLemmas.{waits_by}
+use Rattle.node_core.proofs.MovingLemmas.{moved_goes, moved_runs}
+use Rattle.node_core.proofs.ReadinessLemmas.{stays_ready}
 use Rattle.replay_run.specs.SceneKeeps.{is_rough}
 use Rattle.replay_run.specs.ShownByAnswers.{printed_by}
-
-either_mark : (later first : Option Bool) → unwrap_or later true ≡ true → unwrap_or first true ≡ true → unwrap_or (option_or later first) true ≡ true
-either_mark None first is was = was
-either_mark (Some b) first is was = is
-
-pub no_part : (x y : Bool) → (x || y) ≡ false → (x ≡ false) × (y ≡ false)
-no_part true y none = never (sym none)
-no_part false y none = (refl, none)
-
-kept_mark : (later first : Option Bool) → unwrap_or later true ≡ true → unwrap_or first false ≡ true → unwrap_or (option_or later first) false ≡ true
-kept_mark None first is was = was
-kept_mark (Some b) first is was = is
 
 synced_alive : (V : Type 0) {T : Type 0} (call : CallId) (kept : Option T) → list_any (λ (e : EntrySeen V T). is_death e.kind) (map (λ kind. record { who = call; kind = kind }) (synced_kinds kept)) ≡ false
 synced_alive V call None = refl
@@ -66,25 +55,9 @@ pub not_risen : (before now : ℕ) → now ≡ 0 → Rose before now → ⊥
 not_risen before now none (inl less) = omega (arith, none, less)
 not_risen before now none (inr most) = omega (arith, none, most)
 
-lock_holds : (V : Type 0) {T : Type 0} (b : Bool) (edit : T) → is_holding {V = V} (if b then Reading edit else ReadingFirst edit) ≡ true
-lock_holds V true edit = refl
-lock_holds V false edit = refl
-
 module _ {V T : Type 0} where
   abbrev pub dies : EntrySeen V T → Bool
   dies e = is_death e.kind
-
-  abbrev pub entries_of : CallId → List (KindSeen V T) → List (EntrySeen V T)
-  entries_of call kinds = map (λ kind. record { who = call; kind = kind }) kinds
-
-  all_added : (call : CallId) (kinds : List (KindSeen V T)) (list : List (EntrySeen V T)) → with_entries call kinds list ≡ list ++ entries_of call kinds
-  all_added call [] list = sym (append-nil list)
-  all_added call (kind ∷ kinds) list = all_added call kinds (list ++ record { who = call; kind = kind } ∷ []) ∙ append_assoc list (record { who = call; kind = kind } ∷ []) (entries_of call kinds)
-
-  -- a test that passes no entry of the call passes none of these
-  pub none_passes : (call : CallId) (kinds : List (KindSeen V T)) (p : EntrySeen V T → Bool) → ((kind : KindSeen V T) → p (record { who = call; kind = kind }) ≡ false) → list_any p (entries_of call kinds) ≡ false
-  none_passes call [] p none = refl
-  none_passes call (kind ∷ kinds) p none = rw (none kind) (none_passes call kinds p none)
 
   abbrev pub stumbles : EntrySeen V T → Bool
   stumbles e = is_rough e.kind
@@ -123,44 +96,9 @@ module _ {V T : Type 0} where
     same_own : t.world_after ≡ t.world → AddsOwn t
     same_own is = own_with [] t.world refl (λ unfailed. refl) is refl refl
 
-  -- the call owns the lock still, or is at its first step and has freed it
-  abbrev GoesOn : Turned V T → Type 0
-  GoesOn t = (is_holding t.call_after.at ≡ true) ⊎ ((is_first t.call_after.at ≡ true) × (t.world_after.owner ≡ freed t.call.id t.world.owner))
-
-  filling_holds : (b : Bool) (plan : Plan V T) → is_holding (if b then SyncingScratch plan else Appending plan) ≡ true
-  filling_holds true plan = refl
-  filling_holds false plan = refl
-
   -- an initialised node stays so where no node dies
-  mark_stays : (node : NodeId) (kind : KindSeen V T) → is_death kind ≡ false → unwrap_or (ready_mark node kind) true ≡ true
-  mark_stays node (Inited ready) none = by_node (is_node node ready)
-    where
-      by_node : (b : Bool) → unwrap_or (mark_if b true) true ≡ true
-      by_node true = refl
-      by_node false = refl
-  mark_stays node (Death died) none = never (sym none)
-  mark_stays node other none = refl
-
-  marks_stay : (node : NodeId) (more : List (EntrySeen V T)) → list_any dies more ≡ false → unwrap_or (last_mark (ready_mark node) more) true ≡ true
-  unfolding last_mark
-  marks_stay node [] none = refl
-  marks_stay node (e ∷ es) none =
-      let parts = no_part (dies e) (list_any dies es) none in
-      either_mark (last_mark (ready_mark node) es) (ready_mark node e.kind) (marks_stay node es parts.1) (mark_stays node e.kind parts.0)
-
   pub ready_stays : (node : NodeId) (list more : List (EntrySeen V T)) → list_any dies more ≡ false → is_ready node list ≡ true → is_ready node (list ++ more) ≡ true
-  unfolding is_ready
-  ready_stays node list more none was = rw (last_mark-append (ready_mark node) list more) (kept_mark (last_mark (ready_mark node) more) (last_mark (ready_mark node) list) (marks_stay node more none) was)
-
-not_freed_by : (call : CallId) (owner : Option CallId) → freed call owner ≡ Some call → ⊥
-not_freed_by call None same = absurd (let no : ◌≡◌ {A = Option CallId} None (Some call) = same in cc)
-not_freed_by call (Some owner) same = by_own (is_call call owner) refl same
-  where
-    by_own : (own : Bool) → is_call call owner ≡ own → (if own then None else Some owner) ≡ Some call → ⊥
-    by_own true is same = absurd (let no : ◌≡◌ {A = Option CallId} None (Some call) = same in cc)
-    by_own false is same =
-        let equal : owner ≡ call = (let both : ◌≡◌ {A = Option CallId} (Some owner) (Some call) = same in cc) in
-        never (let own : is_call call owner ≡ true = rw equal (itself call) in cc)
+  ready_stays node list more none = stays_ready node list more (none_of_node node more none)
 
 module _ {V T M : Type 0} (r : Rules V T) (s : Store V M) where
   abbrev Gave : Type 0
@@ -230,20 +168,6 @@ module _ {V T M : Type 0} (r : Rules V T) (s : Store V M) where
     pub turn_adds_own : (gave : Gave) → Turn r s t gave → Knows r s t.world t.call → AddsOwn t
     turn_adds_own gave it knows = let own = row_own t.call.at (begin t) gave (turn_row gave it).1 knows.plan in record { kinds = own.kinds; added = own.added; alive = own.alive; deaths = own.deaths; smooth = own.smooth }
 
-  row_goes : (at : At V T) (t : Turned V T) → Row r s at t Moved → GoesOn t
-  row_goes (First edit) t it = inl (rw it.call (lock_holds V (is_ready_now t) edit))
-  row_goes (ReadingFirst edit) t it = inl (rw it.then.call refl)
-  row_goes (Migrating edit value) t it = inl (rw it.1.call refl)
-  row_goes (Finishing edit) t it = inr (rw it.call refl, ap (λ (w : World V T). w.owner) it.world)
-  row_goes (Reading edit) t it = inl (elim it.then [ inl writes ↦ rw writes.goes_on.call refl | inr keeps ↦ rw keeps.goes_on.call refl ])
-  row_goes (Raising plan) t it = inl (rw it.call refl)
-  row_goes (Creating plan) t it = inl (rw it.call (filling_holds (length plan.text.rest == 0) plan))
-  row_goes (Appending plan) t it = inl (rw it.call (filling_holds (length (drop 4096 plan.text.rest) == 0) (piece_written plan)))
-  row_goes (SyncingScratch plan) t it = inl (rw it.call refl)
-  row_goes (Renaming plan) t it = inl (rw it.call refl)
-  row_goes (SyncingFolder ending) t it = absurd it
-  row_goes Gone t it = absurd it
-
   row_id : (at : At V T) (t : Turned V T) → Row r s at t Moved → t.call_after.id ≡ t.call.id
   row_id (First edit) t it = rw it.call refl
   row_id (ReadingFirst edit) t it = rw it.then.call refl
@@ -279,20 +203,10 @@ module _ {V T M : Type 0} (r : Rules V T) (s : Store V M) where
   row_prints at t (Err (error.Refused code edition)) it = absurd it
   row_prints at t other it = tt
 
-  holding_goes_on : (at : At V T) → is_holding at ≡ true → is_gone at ≡ false
-  holding_goes_on (First edit) is = refl
-  holding_goes_on Gone is = never is
-  holding_goes_on other is = refl
-
-  first_goes_on : (at : At V T) → is_first at ≡ true → is_gone at ≡ false
-  first_goes_on (First edit) is = refl
-  first_goes_on Gone is = never is
-  first_goes_on other is = refl
-
   module _ (t : Turned V T) (alive : list_any dies t.world.history ≡ false) (none : t.world.deaths ≡ []) where
     -- a turn that moves leaves the call going
     pub moves_on : Turn r s t Moved → is_gone t.call_after.at ≡ false
-    moves_on it = elim (row_goes t.call.at (begin t) (turn_row t alive none Moved it).1) [ inl holds ↦ holding_goes_on t.call_after.at holds | inr first ↦ first_goes_on t.call_after.at first.0 ]
+    moves_on it = moved_runs r s t it
 
     pub moved_is_same : Turn r s t Moved → t.call_after.id ≡ t.call.id
     moved_is_same it = row_id t.call.at (begin t) (turn_row t alive none Moved it).1
@@ -304,9 +218,9 @@ module _ {V T M : Type 0} (r : Rules V T) (s : Store V M) where
     -- where the call owns the lock behind it, it holds it
     pub moved_holds : Turn r s t Moved → t.world_after.owner ≡ Some t.call.id → is_holding t.call_after.at ≡ true
     moved_holds it owns =
-        elim (row_goes t.call.at (begin t) (turn_row t alive none Moved it).1) [
+        elim (moved_goes r s t it) [
           | inl holds ↦ holds
-          | inr first ↦ absurd (not_freed_by t.call.id t.world.owner (sym first.1 ∙ owns))
+          | inr first ↦ absurd (not_freed t.call.id t.world.owner (sym first.1 ∙ owns))
         ]
 
     pub finishing_readies : Turn r s t Moved → is_finishing t.call.at ≡ true → is_ready t.call.id.node t.world_after.history ≡ true

@@ -1,6 +1,6 @@
 -- A run of the small store is shown by computing it.
 use Rattle.std.proofs.Common.{◌≡◌, ◌∙◌, inl, inr, ℕ, suc, zero, ◌+◌, ◌==◌, nat_le, Bool, true, false, ◌&&◌, not, List, [], ◌∷◌, Option, Some, None, refl, sym, ap, arith, length, slice_get, slice_set, if◌then◌else◌, Result, Ok, Err}
-use Rattle.std.proofs.lemmas.Bool.{eqb-true}
+use Rattle.std.proofs.lemmas.Bool.{eqb-true, and_parts as both_parts, not-true as not_true}
 use Rattle.std.proofs.lemmas.Bool.Decides.{nat_tests}
 use Rattle.store_traits.specs.declared.applied.Applied.{Applied}
 use Rattle.store_traits.specs.declared.applied.Applied.TheVariants.{Changed, Refused}
@@ -19,7 +19,7 @@ use Rattle.shelf.specs.ExampleTurns.{rules}
 use Rattle.shelf.specs.Runs as shelf
 use Rattle.shelf.specs.Turn.{Turn, begin, dies_now, has_died_by}
 use Rattle.shelf.specs.World.{Turned, World}
-use Rattle.shelf.proofs.Bools.{both_parts, never, not_true}
+use Rattle.shelf.proofs.Bools.{never}
 use Rattle.shelf.proofs.Played.{Run-computed, all_fine, scene_at}
 use Rattle.replay_run.specs.Order.{DoesAll, Does, Go, GoesTimes, Order, Task, Update, with_edit}
 use Rattle.replay_run.specs.Run.{GoesEach, IsOver, IsRun, Rounds, start_of}

@@ -1,27 +1,16 @@
 -- What holds of the clients once one of them is another.
-use Rattle.std.proofs.Common.{◌≡◌, ◌∙◌, ◌≤◌, ◌==◌, ℕ, Bool, true, false, ◌&&◌, List, All, Option, Some, slice_get, slice_set, refl, sym, arith}
+use Rattle.std.proofs.Common.{◌≡◌, ◌∙◌, ◌≤◌, ◌==◌, ℕ, Bool, true, false, List, All, Option, Some, slice_get, slice_set, refl, sym, arith}
 use Rattle.std.proofs.lemmas.Bool.{eq-eqb, eqb-true}
 use Rattle.std.proofs.lemmas.List.Elements.{All-weaker}
 use Rattle.store_traits.specs.declared.ids.CallId.{CallId}
 use Rattle.hist_journal.specs.declared.seen.EntrySeen.{EntrySeen}
-use Rattle.hist_journal.specs.Kinds.{is_call}
-use Rattle.shelf.proofs.Bools.{both_parts, never}
+use Rattle.shelf.proofs.Bools.{never}
 use Rattle.replay_run.specs.Scene.{Client}
 use Rattle.replay_run.specs.SceneKeeps.{HasOwner, IsOfCall}
 use Rattle.replay_run.proofs.SetLemmas.{others_found, set_found}
 
 pub one_of_it : {X : Type 0} (found : Option X) (x y : X) → found ≡ Some x → found ≡ Some y → x ≡ y
 one_of_it {X = X} found x y first second = let both : ◌≡◌ {A = Option X} (Some x) (Some y) = sym first ∙ second in cc
-
-call_of_parts : (node client number node' client' number' : ℕ) → node ≡ node' → client ≡ client' → number ≡ number'
-    → ◌≡◌ {A = CallId} (record { node = record { 0 = node }; client = record { 0 = client }; number = number }) (record { node = record { 0 = node' }; client = record { 0 = client' }; number = number' })
-call_of_parts node client number node' client' number' same_node same_client same_number = rw (same_node, same_client, same_number) refl
-
-pub same_call : (a b : CallId) → is_call a b ≡ true → a ≡ b
-same_call a b is =
-    let first = both_parts ((a.node.0 == b.node.0) && (a.client.0 == b.client.0)) (a.number == b.number) is in
-    let rest = both_parts (a.node.0 == b.node.0) (a.client.0 == b.client.0) first.0 in
-    call_of_parts a.node.0 a.client.0 a.number b.node.0 b.client.0 b.number (eqb-true a.node.0 b.node.0 rest.0) (eqb-true a.client.0 b.client.0 rest.1) (eqb-true a.number b.number first.1)
 
 module _ {V T : Type 0} (clients : List (Client V T)) (place : ℕ) (client now : Client V T) (found : slice_get clients place ≡ Some client) where
   abbrev pub replaced : List (Client V T)

@@ -1,6 +1,6 @@
 -- In the end of a run the clients have been asked for what the orders say.
 use Rattle.std.proofs.Common.{◌≡◌, ◌∙◌, inl, inr, ◌+◌, ◌==◌, ℕ, suc, zero, Bool, true, false, List, [], ◌∷◌, ◌++◌, append_assoc, append-nil, Option, Some, None, slice_get, refl, sym, ap, subst, if◌then◌else◌, Result}
-use Rattle.std.proofs.lemmas.Bool.{eq-eqb}
+use Rattle.std.proofs.lemmas.Bool.{eq-eqb, ne_eqb as unequal}
 use Rattle.std.proofs.lemmas.List.Concat.{flat_map-append}
 use Rattle.store_traits.specs.declared.ids.NodeId.{NodeId}
 use Rattle.store_traits.specs.declared.update_error.UpdateError.{UpdateError}
@@ -15,7 +15,6 @@ use Rattle.replay_run.specs.Scene.{Client, Scene}
 use Rattle.replay_run.specs.Step.{Goes, at_work, begin_next, behind_turn}
 use Rattle.replay_run.proofs.SetLemmas.{found_then}
 use Rattle.replay_run.proofs.StepKeeps.{new_from}
-use Rattle.replay_run.proofs.TurnKeeps.{unequal}
 
 one_more : {T : Type 0} (place : ℕ) (orders : List (Order T)) (order : Order T) → edits_for place (orders ++ order ∷ []) ≡ edits_for place orders ++ edits_for place (order ∷ [])
 one_more place orders order = flat_map-append (λ order. if order.place == place then task_edits order.task else []) orders (order ∷ [])

@@ -20,7 +20,7 @@ use Rattle.shelf.specs.Calls.{At, Call, First, Gone}
 use Rattle.shelf.specs.ShelfSeen.{ShelfSeen, shelf_seen}
 use Rattle.shelf.specs.World.{Rules, World}
 use Rattle.shelf.proofs.Bools.{never}
-use Rattle.shelf.proofs.StepLemmas.{itself}
+use Rattle.shelf.proofs.StepLemmas.{itself, same_call}
 use Rattle.node_core.specs.Phases.{is_holding}
 use Rattle.node_core.specs.Ready.{Equipped}
 use Rattle.node_core.specs.Views.{room_of, state_seen}
@@ -35,7 +35,7 @@ use Rattle.replay_run.specs.StageView.{Change, EquippedIn, IsEquipped, Running, 
 use Rattle.replay_run.specs.Step.{Goes, at_work, behind_turn}
 use Rattle.replay_run.proofs.BeginKeeps.{begins_keeps}
 use Rattle.replay_run.proofs.ClientBegins.{at_work_calls, room_other}
-use Rattle.replay_run.proofs.ReplacedClient.{one_of_it, same_call}
+use Rattle.replay_run.proofs.ReplacedClient.{one_of_it}
 use Rattle.replay_run.proofs.SetLemmas.{set_found, set_same}
 use Rattle.replay_run.proofs.SetViews.{all_found, all_set, map_set}
 

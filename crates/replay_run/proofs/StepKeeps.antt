@@ -1,10 +1,11 @@
 -- What a run keeps: at the start, with each step of a client, and with each call that it is asked for.
-use Rattle.std.proofs.Common.{◌≡◌, ◌∙◌, inl, inr, ◌+◌, ℕ, suc, zero, List, [], ◌∷◌, ◌++◌, map, Option, Some, None, slice_get, slice_set, refl, sym, ap, subst, arith}
+use Rattle.std.proofs.Common.{◌≡◌, ◌∙◌, inl, inr, ◌+◌, ℕ, suc, zero, List, [], ◌∷◌, map, Option, Some, slice_get, slice_set, refl, sym, ap, subst, arith}
 use Rattle.std.specs.List.{enumerate_from}
 use Rattle.std.proofs.lemmas.List.Elements.{All-nil}
 use Rattle.store_traits.specs.declared.ids.NodeId.{NodeId}
 use Rattle.shelf.specs.declared.store.Store.{Store}
 use Rattle.shelf.specs.World.{Begins, Rules}
+use Rattle.shelf.proofs.LegalLemmas.{nothing_stands_in_none}
 use Rattle.replay_run.specs.ClientKeeps.{KeepsClient}
 use Rattle.replay_run.specs.Order.{Adds}
 use Rattle.replay_run.specs.Run.{new_client, new_clients, start_of, world_of}
@@ -14,13 +15,7 @@ use Rattle.replay_run.specs.Step.{Goes, Steps, at_work, behind_turn}
 use Rattle.replay_run.proofs.BeginKeeps.{adds_keeps, begins_keeps}
 use Rattle.replay_run.proofs.SetLemmas.{set_found, set_twice}
 use Rattle.replay_run.proofs.TurnKeeps.{turn_keeps_scene}
-
-nothing_there : {X Y : Type 0} (y : Y) → ◌≡◌ {A = Option Y} None (Some y) → X
-nothing_there y is = absurd cc
-
-nothing_stands : {X : Type 0} (before : List X) (x : X) (behind : List X) → [] ≡ before ++ x ∷ behind → ⊥
-nothing_stands [] x behind is = cc
-nothing_stands (y ∷ before) x behind is = cc
+use Rattle.replay_run.proofs.LineLemmas.{nothing}
 
 module _ {V T : Type 0} where
   -- a client at the start stands at its place, and is a new one of the node there
@@ -33,7 +28,7 @@ module _ {V T : Type 0} where
   new_at first place home client same is = sym is ∙ ap (λ n. new_client n home) same
 
   pub new_from : (first : ℕ) (homes : List NodeId) (place : ℕ) (client : Client V T) → slice_get (map (λ placed. new_client placed.0 placed.1) (enumerate_from first homes)) place ≡ Some client → IsNew homes place (first + place) client
-  new_from first [] place client is = nothing_there client is
+  new_from first [] place client is = nothing client is
   new_from first (home ∷ homes) zero client is =
       record { node = home; home = refl; is = new_at first (first + 0) home client (omega arith) (let both : ◌≡◌ {A = Option (Client V T)} (Some (new_client first home)) (Some client) = is in cc) }
   new_from first (home ∷ homes) (suc place) client is =
@@ -87,5 +82,5 @@ module _ {V T M : Type 0} (r : Rules V T) (s : Store V M) where
           (record {
             id = omega arith;
             running = refl;
-            answers = λ before a behind is. absurd (nothing_stands before a behind is);
+            answers = λ before a behind is. absurd (nothing_stands_in_none before behind a is);
           })

@@ -1,7 +1,7 @@
 -- A scene keeps what it keeps as a call that runs takes a turn.
-use Rattle.std.proofs.Common.{◌≡◌, ◌∙◌, inl, inr, ◌≤◌, ◌<◌, ◌+◌, ◌==◌, ◌&&◌, ◌||◌, ℕ, nat_le, Bool, true, false, List, All, [], ◌∷◌, ◌++◌, length, length-append, Option, Some, None, IfSome, append_assoc, slice_get, slice_set, slice_index_or, refl, sym, ap, subst, arith, Result, Ok, Err}
+use Rattle.std.proofs.Common.{◌≡◌, ◌∙◌, inl, inr, ◌≤◌, ◌<◌, ◌+◌, ◌==◌, ◌&&◌, ◌||◌, ℕ, nat_le, Bool, true, false, List, All, [], ◌∷◌, ◌++◌, length, length-append, Option, Some, None, IfSome, slice_get, slice_set, slice_index_or, refl, sym, ap, subst, arith, Result, Ok, Err}
 use Rattle.std.specs.List.{list_any}
-use Rattle.std.proofs.lemmas.Bool.{eqb-true}
+use Rattle.std.proofs.lemmas.Bool.{ne_eqb, or_cases}
 use Rattle.std.proofs.lemmas.Bool.Decides.{nat_tests}
 use Rattle.std.proofs.lemmas.List.Elements.{All-append, All-map}
 use Rattle.std.proofs.lemmas.List.Folds.{list_any-append}
@@ -11,52 +11,46 @@ use Rattle.store_traits.specs.declared.update_error.UpdateError.{UpdateError}
 use Rattle.store_traits.specs.declared.update_error.UpdateError.TheVariants as error
 use Rattle.hist_journal.specs.declared.seen.EntrySeen.{EntrySeen}
 use Rattle.hist_journal.specs.declared.seen.KindSeen.{KindSeen}
-use Rattle.hist_journal.specs.declared.seen.KindSeen.TheVariants.{Edit}
 use Rattle.hist_journal.specs.Folds.{edition_of}
 use Rattle.hist_journal.specs.Kinds.{is_call}
 use Rattle.hist_journal.specs.Nodes.{is_ready}
 use Rattle.shelf.specs.declared.progress.Progress.{Progress}
 use Rattle.shelf.specs.declared.progress.Progress.TheVariants.{Moved, Blocked, Ended}
 use Rattle.shelf.specs.declared.store.Store.{Store}
-use Rattle.shelf.specs.Calls.{At, Call, First, SyncingFolder, Changed, Kept, is_first, is_gone}
+use Rattle.shelf.specs.Calls.{At, Call, First, is_first, is_gone}
 use Rattle.shelf.specs.Entries.{is_any, is_own, is_update}
 use Rattle.shelf.specs.Meanwhile.{NoneOf}
 use Rattle.shelf.specs.Places.{is_up_to}
 use Rattle.shelf.specs.Turn.{Turn}
 use Rattle.shelf.specs.World.{Rules, Turned, World}
-use Rattle.shelf.proofs.Bools.{never, or_either}
+use Rattle.shelf.proofs.Bools.{never}
 use Rattle.shelf.proofs.DeathLemmas.{has_not_died}
-use Rattle.shelf.proofs.StepLemmas.{itself, turn_waits}
-use Rattle.node_core.specs.Own.{HasChanged, IsFor}
+use Rattle.shelf.proofs.GrowthLemmas.{entries_of, none_passes}
+use Rattle.shelf.proofs.StepLemmas.{itself, turn_waits, same_call}
+use Rattle.node_core.specs.Own.{IsFor}
 use Rattle.node_core.specs.Phases.{is_finishing}
 use Rattle.node_core.proofs.Acknowledging.{update_is_acknowledged}
 use Rattle.node_core.proofs.BetweenLemmas.{between_keeps_knowledge}
 use Rattle.node_core.proofs.CauseOfAnswers.{error_has_cause}
-use Rattle.node_core.proofs.ForLemmas.{turn_is_for}
+use Rattle.node_core.proofs.ForLemmas.{turn_is_for, still_for}
 use Rattle.node_core.proofs.KeepingLemmas.{turn_keeps_knowledge}
 use Rattle.node_core.proofs.SparingLemmas.{turn_owner, turn_spares}
 use Rattle.script_lang.specs.Each.{Each}
+use Rattle.script_lang.proofs.EachLemmas.{each_push}
 use Rattle.replay_run.specs.ClientKeeps.{IsExplained, IsTrueAnswer, KeepsCall, KeepsClient, KeepsRunning, may_stand}
 use Rattle.replay_run.specs.Scene.{Answered, Client, Scene, call_of}
 use Rattle.replay_run.specs.SceneKeeps.{HasOwner, IsOfCall, SceneKeeps, ShelfKeeps}
 use Rattle.replay_run.specs.ShownByAnswers.{printed_by, shown_of}
 use Rattle.replay_run.specs.Step.{behind_turn}
-use Rattle.replay_run.proofs.AnswerLemmas.{answers_more, answers_same, cause_of_less, each-push, shown_stays, shown_within}
+use Rattle.replay_run.proofs.AnswerLemmas.{answers_more, answers_same, cause_of_less, shown_stays, shown_within}
 use Rattle.replay_run.proofs.BeginKeeps.{middle_none}
 use Rattle.replay_run.proofs.ErrorLeaves.{error_leaves_none}
-use Rattle.replay_run.proofs.OwnTurns.{AddsOwn, dies, ended_owns_nothing, entries_of, finishing_readies, living, moved_holds, moved_is_same, moves_on, none_passes, prints_now, ready_stays, stumbles, turn_adds_own, waits_same}
-use Rattle.replay_run.proofs.ReplacedClient.{entries_on, one_of_it, owner_apart, same_call}
+use Rattle.replay_run.proofs.OwnTurns.{AddsOwn, dies, ended_owns_nothing, finishing_readies, living, moved_holds, moved_is_same, moves_on, prints_now, ready_stays, stumbles, turn_adds_own, waits_same}
+use Rattle.replay_run.proofs.ReplacedClient.{entries_on, one_of_it, owner_apart}
 use Rattle.replay_run.proofs.SetLemmas.{found_then, set_found}
 
 up_to_none : (same : Bool) (number begun : ℕ) → number < begun → (same && nat_le begun number) ≡ false
 up_to_none same number begun less = grind (arith, nat_tests, less)
-
-pub unequal : (a b : ℕ) → (a ≡ b → ⊥) → (a == b) ≡ false
-unequal a b apart = by_test (a == b) refl
-  where
-    by_test : (t : Bool) → (a == b) ≡ t → t ≡ false
-    by_test true is = absurd (apart (eqb-true a b is))
-    by_test false is = refl
 
 module _ {V T : Type 0} where
   pub first_not_finishing : (at : At V T) → is_first at ≡ true → is_finishing at ≡ false
@@ -69,24 +63,6 @@ module _ {V T : Type 0} where
   behind_same client call (Ended answer) call_after = (refl, refl)
   behind_same client call Moved call_after = (refl, refl)
   behind_same client call Blocked call_after = (refl, refl)
-
-  abbrev changed_more : (call : CallId) (place : ℕ) (list more : List (EntrySeen V T)) → NoneOf call more → HasChanged call place list → HasChanged call place (list ++ more)
-  changed_more call place list more none has =
-      record {
-        before = has.before;
-        edit = has.edit;
-        behind = has.behind ++ more;
-        is = ap (λ (xs : List (EntrySeen V T)). xs ++ more) has.is ∙ append_assoc has.before (record { who = call; kind = Edit has.edit } ∷ has.behind) more;
-        early = has.early;
-        last = list_any-append (is_own is_any call) has.behind more ∙ rw (has.last, none) refl;
-        counted = has.counted;
-      }
-
-  -- others leave a call at work for its transform
-  still_for : (call : CallId) (edit : T) (at : At V T) (list more : List (EntrySeen V T)) → NoneOf call more → IsFor call edit at list → IsFor call edit at (list ++ more)
-  still_for call edit (SyncingFolder (Changed place)) list more none so = (changed_more call place list more none so.0, so.1)
-  still_for call edit (SyncingFolder (Kept asked)) list more none so = so
-  still_for call edit other list more none so = so
 
 module _ {V T M : Type 0} (r : Rules V T) (s : Store V M) where
   module _ (scene : Scene V T) (place : ℕ) (client : Client V T) (call call_after : Call V T) (world_after : World V T) (gave : Progress (Result ℕ UpdateError)) where
@@ -128,7 +104,7 @@ module _ {V T M : Type 0} (r : Rules V T) (s : Store V M) where
         theirs = keeps.clients other c other_found
 
         differ : (c.id.0 == call.id.client.0) ≡ false
-        differ = unequal c.id.0 call.id.client.0 (λ same. apart (sym theirs.id ∙ (same ∙ at_place)))
+        differ = ne_eqb c.id.0 call.id.client.0 (λ same. apart (sym theirs.id ∙ (same ∙ at_place)))
 
         over_others : (number : ℕ) → list_any (is_up_to (call_of c number)) more ≡ false
         over_others number = none_passes call.id adds.kinds (is_up_to (call_of c number)) (λ kind. rw differ refl)
@@ -198,7 +174,7 @@ module _ {V T M : Type 0} (r : Rules V T) (s : Store V M) where
 
       moved_ready : Turn r s turned Moved → (client.initialised || is_finishing call.at) ≡ true → is_ready client.node world_after.history ≡ true
       moved_ready it is =
-          elim (or_either client.initialised (is_finishing call.at) is) [
+          elim (or_cases client.initialised (is_finishing call.at) is) [
             | inl before ↦ ready_after before
             | inr finishing ↦ (let node : call.id.node ≡ client.node = ap (λ (id : CallId). id.node) kept.id in
                 let ready : is_ready call.id.node world_after.history ≡ true = finishing_readies r s turned keeps.alive keeps.unplanned it finishing in
@@ -234,7 +210,7 @@ module _ {V T M : Type 0} (r : Rules V T) (s : Store V M) where
             is_for = subst (λ id. IsFor id kept.edit call_after.at world_after.history) (sym same) (turn_is_for r s kept.edit turned Blocked it kept.knows kept.is_for);
             knows = turn_keeps_knowledge r s turned Blocked it kept.knows shelf.reads goes_on;
             goes_on = goes_on;
-            ready = λ is. elim (or_either client.initialised (is_finishing call.at) is) [ inl before ↦ ready_after before | inr finishing ↦ never (sym not_finishing ∙ finishing) ];
+            ready = λ is. elim (or_cases client.initialised (is_finishing call.at) is) [ inl before ↦ ready_after before | inr finishing ↦ never (sym not_finishing ∙ finishing) ];
           }
 
       client_by : (g : Progress (Result ℕ UpdateError)) → gave ≡ g → KeepsClient r s place world_after (behind_turn client call g call_after)
@@ -245,7 +221,7 @@ module _ {V T M : Type 0} (r : Rules V T) (s : Store V M) where
             running = kept.counted ∙ sym (length-append client.answered (a ∷ []));
             answers =
                 answers_same r s client (behind_turn client call (Ended answer) call_after) world_after.history (client.answered ++ a ∷ []) refl refl (λ n edit asked. asked)
-                (each-push (IsTrueAnswer r s client world_after.history) client.answered a still_true (new_answer answer is));
+                (each_push (IsTrueAnswer r s client world_after.history) client.answered a still_true (new_answer answer is));
           }
       client_by Moved is =
           record {

@@ -1,7 +1,7 @@
 -- Each step that is not blocked leaves the clients less to do, and in each round somebody does one.
-use Rattle.std.proofs.Common.{◌≡◌, ◌≢◌, ◌∙◌, ◌⊎◌, inl, inr, ◌<◌, ◌+◌, ◌-◌, ◌*◌, ◌==◌, ◌||◌, ℕ, suc, Bool, true, false, length, Option, Some, None, IfSome, is_some, slice_get, slice_set, slice_index_or, refl, sym, ap, subst, arith, Result}
+use Rattle.std.proofs.Common.{◌≡◌, ◌∙◌, ◌⊎◌, inl, inr, ◌<◌, ◌+◌, ◌-◌, ◌*◌, ◌==◌, ◌||◌, ℕ, suc, Bool, true, false, length, Option, Some, None, IfSome, is_some, slice_get, slice_set, slice_index_or, refl, sym, ap, subst, arith, Result}
 use Rattle.std.proofs.Math.Nat.{suc-mul}
-use Rattle.std.proofs.lemmas.Bool.{eq-eqb, eqb-true}
+use Rattle.std.proofs.lemmas.Bool.{eqb-true, eqb-false as apart_of}
 use Rattle.std.proofs.lemmas.List.Folds.{list_any_none}
 use Rattle.std.proofs.lemmas.Option.{slice_get-get_or, slice_get_within}
 use Rattle.store_traits.specs.declared.ids.CallId.{CallId}
@@ -33,9 +33,6 @@ one_fewer : (limit edits begun : ℕ) → begun < edits → limit + 11 + (edits 
 one_fewer limit edits begun within =
     let more : edits - begun ≡ suc (edits - (begun + 1)) = omega (arith, within) in
     rw more (omega (arith, suc-mul (edits - (begun + 1)) (limit + 11)))
-
-apart_of : (a b : ℕ) → (a == b) ≡ false → a ≢ b
-apart_of a b is same = never (sym is ∙ eq-eqb a b same)
 
 or_none : (x y : Bool) → y ≡ false → (x || y) ≡ x
 or_none true y none = refl

@@ -14,11 +14,23 @@ pub stops_at_once : (text held : List ℕ) → GainsFront text held held
 stops_at_once text held = (0, sym (append-nil held))
 
 -- a front of a text is one of a longer text
-pub front_of_longer : (text more : List ℕ) (n : ℕ) → (m : ℕ) × (take m (text ++ more) ≡ take n text)
+front_of_longer : (text more : List ℕ) (n : ℕ) → (m : ℕ) × (take m (text ++ more) ≡ take n text)
 front_of_longer text more n = elim (cases_lt n (length text)) [
   | inl within ↦ (n, take-append-le n text more (omega arith))
   | inr past ↦ (length text, take-append_seam text more ∙ sym (take_all n text past))
 ]
+
+pub front_of_first : (first second held new_held : List ℕ) → GainsFront first held new_held → GainsFront (first ++ second) held new_held
+front_of_first first second held new_held gains =
+    let front = front_of_longer first second gains.0 in (front.0, gains.1 ∙ ap (λ (t : List ℕ). held ++ t) (sym front.1))
+
+-- a front of a second text behind the whole first one
+pub front_of_second : (first second held middle new_held : List ℕ) → middle ≡ held ++ first → GainsFront second middle new_held → GainsFront (first ++ second) held new_held
+front_of_second first second held middle new_held whole gains = (
+  length first + gains.0,
+  gains.1 ∙ ap (λ (t : List ℕ). t ++ take gains.0 second) whole ∙ append_assoc held first (take gains.0 second)
+      ∙ ap (λ (t : List ℕ). held ++ t) (sym (take-append-add first second gains.0)),
+)
 
 -- a text that was pushed behind what is gathered
 pub passes_pushed : (text held gathered pushed : List ℕ) → pushed ≡ gathered ++ text → PassesOn text held gathered held pushed
@@ -42,18 +54,13 @@ gathers_behind first second held gathered middle_held middle_gathered new_held n
     passes_both first second held gathered middle_held middle_gathered new_held new_gathered one two
 gathers_behind first second held gathered middle_held middle_gathered new_held new_gathered (Err e) one two =
     let whole : gathered ++ (first ++ second) ≡ one.written ++ (middle_gathered ++ second) =
-    sym (append_assoc gathered first second) ∙ ap (λ (t : List ℕ). t ++ second) one.parts ∙ append_assoc one.written middle_gathered second in (
-      length one.written + two.0,
-      two.1 ∙ ap (λ (t : List ℕ). t ++ take two.0 (middle_gathered ++ second)) one.gained ∙ append_assoc held one.written (take two.0 (middle_gathered ++ second))
-          ∙ ap (λ (t : List ℕ). held ++ t) (sym (take-append-add one.written (middle_gathered ++ second) two.0))
-          ∙ ap (λ (t : List ℕ). held ++ take (length one.written + two.0) t) (sym whole),
-    )
+    sym (append_assoc gathered first second) ∙ ap (λ (t : List ℕ). t ++ second) one.parts ∙ append_assoc one.written middle_gathered second in
+    subst (λ (t : List ℕ). GainsFront t held new_held) (sym whole) (front_of_second one.written (middle_gathered ++ second) held middle_held new_held one.gained two)
 
 -- a text that stopped stops what was to follow it
 pub stops_inside : (first second held gathered new_held : List ℕ) → GainsFront (gathered ++ first) held new_held → GainsFront (gathered ++ (first ++ second)) held new_held
 stops_inside first second held gathered new_held stop =
-    let front = front_of_longer (gathered ++ first) second stop.0 in
-    (front.0, stop.1 ∙ ap (λ (t : List ℕ). held ++ t) (sym front.1) ∙ ap (λ (t : List ℕ). held ++ take front.0 t) (append_assoc gathered first second))
+    subst (λ (t : List ℕ). GainsFront t held new_held) (append_assoc gathered first second) (front_of_first (gathered ++ first) second held new_held stop)
 
 -- a push, and then the writing of what is gathered
 pub gathers_pushed : {T E : Type 0} (text held gathered pushed new_held new_gathered : List ℕ) (result : Result T E)

@@ -6,6 +6,7 @@ use Rattle.std.proofs.lemmas.List.Elements.{Contains-push_cases}
 use Rattle.std.proofs.lemmas.Slice.Eq.{bytes_eq-Decides}
 use Rattle.std.proofs.lemmas.Bool.{false≢true}
 use Rattle.std.proofs.lemmas.Option.{slice_get_within, get_or_from_slice_get, slice_get-get_or}
+use Rattle.folder_disk.proofs.MainsLemmas.{get_last}
 use Rattle.script_lang.specs.Finding.{Finds}
 
 pub slice_get-push_before : {X : Type 0} (xs : List X) (y x : X) (i : ℕ) → slice_get xs i ≡ Some x → slice_get (xs ++ y ∷ []) i ≡ Some x
@@ -13,15 +14,11 @@ slice_get-push_before [] y x i e = cc
 slice_get-push_before (z ∷ xs) y x zero e = e
 slice_get-push_before (z ∷ xs) y x (suc i) e = slice_get-push_before xs y x i e
 
-pub slice_get-push_last : {X : Type 0} (xs : List X) (y : X) → slice_get (xs ++ y ∷ []) (length xs) ≡ Some y
-slice_get-push_last [] y = refl
-slice_get-push_last (z ∷ xs) y = slice_get-push_last xs y
-
 -- the last name is found, and so is each that was found before
 found_more : (names : List (List ℕ)) (name other : List ℕ) (same : Bool) (old : Option ℕ) → same ≡ bytes_eq name other → Finds names other old → Finds (names ++ name ∷ []) other (cond same (Some (length names)) old)
 found_more names name other true old test finds =
     let is : name ≡ other = (bytes_eq-Decides name other).0 (sym test) in
-    rw (← is) (slice_get-push_last names name)
+    rw (← is) (get_last names name)
 found_more names name other false (Some place) test finds = slice_get-push_before names name other place finds
 found_more names name other false None test finds =
     let differs : name ≢ other = λ is. false≢true (test ∙ (bytes_eq-Decides name other).1 is) in

@@ -19,7 +19,7 @@ use Rattle.script_lang.specs.Keeps.{StandOnce}
 use Rattle.script_lang.specs.Rows.{Row, keyword, call, IsSkipped, IsFileWord, IsFileRow, IsHistoryRow, IsNodeRow, IsClientRow, IsGoRow}
 use Rattle.script_lang.specs.Spelling.{LineSpells, SomeRowSpells, Spells, SpellsAct}
 use Rattle.script_lang.proofs.OneFile.{one_file}
-use Rattle.script_lang.proofs.OneRow.{one_row}
+use Rattle.script_lang.proofs.OneRow.{first_same, one_row}
 
 one_number : (word : List ℕ) (least most a b : ℕ) → most ≤ 100000 → IsNumberWithin word least most a → IsNumberWithin word least most b → a ≡ b
 one_number word least most a b bound is also =
@@ -110,41 +110,38 @@ same_client a b e = ap (λ (n : ℕ). record { 0 = n }) e
 at_same_place : (names : List (List ℕ)) → StandOnce names → (i j : ℕ) (a b : List ℕ) → a ≡ b → slice_get names i ≡ Some a → slice_get names j ≡ Some b → i ≡ j
 at_same_place names once i j a b same at_i at_j = once i j b (at_i ∙ ap Some same) at_j
 
-first_same : (a b : List ℕ) (more rest : List (List ℕ)) → a ∷ more ≡ b ∷ rest → a ≡ b
-first_same a b more rest e = cc
-
-rest_same : (a b : List ℕ) (more rest : List (List ℕ)) → a ∷ more ≡ b ∷ rest → more ≡ rest
-rest_same a b more rest e = cc
-
 module _ (draft : Draft) (nodes_once : StandOnce draft.nodes) (clients_once : StandOnce draft.clients) (a b : Line) where
   both_files : (behind : List (List ℕ)) → OfFile behind a → OfFile behind b → a ≡ b
   both_files behind x y =
-      let words = first_same x.follow.word y.follow.word [] [] (sym x.follow.row ∙ y.follow.row) in
+      let words = (first_same x.follow.word y.follow.word [] [] (sym x.follow.row ∙ y.follow.row)).0 in
       let P : List ℕ → Type 0 = λ w. IsFileWord w x.main in
       x.is ∙ ap File (one_file y.follow.word x.main y.main (subst P words x.follow.is_file) y.follow.is_file) ∙ sym y.is
 
   both_bounds : (behind : List (List ℕ)) → OfHistory behind a → OfHistory behind b → a ≡ b
   both_bounds behind x y =
-      let words = first_same x.follow.word y.follow.word [] [] (sym x.follow.row ∙ y.follow.row) in
+      let words = (first_same x.follow.word y.follow.word [] [] (sym x.follow.row ∙ y.follow.row)).0 in
       let P : List ℕ → Type 0 = λ w. IsNumberWithin w 1 100000 x.entries in
       x.is ∙ ap History (one_number y.follow.word 1 100000 x.entries y.entries (lit≤ tt) (subst P words x.follow.is_number) y.follow.is_number) ∙ sym y.is
 
   both_nodes : (behind : List (List ℕ)) → OfNode behind a → OfNode behind b → a ≡ b
-  both_nodes behind x y = x.is ∙ ap Node (first_same x.name y.name [] [] (sym x.follow.row ∙ y.follow.row)) ∙ sym y.is
+  both_nodes behind x y = x.is ∙ ap Node (first_same x.name y.name [] [] (sym x.follow.row ∙ y.follow.row)).0 ∙ sym y.is
 
   both_clients : (behind : List (List ℕ)) → OfClient draft behind a → OfClient draft behind b → a ≡ b
   both_clients behind x y =
       let rows = sym x.follow.row ∙ y.follow.row in
-      let names : x.name ≡ y.name = first_same x.name y.name (codes "on" ∷ x.home_name ∷ []) (codes "on" ∷ y.home_name ∷ []) rows in
-      let homes : x.home_name ≡ y.home_name = first_same x.home_name y.home_name [] [] (rest_same (codes "on") (codes "on") (x.home_name ∷ []) (y.home_name ∷ []) (rest_same x.name y.name (codes "on" ∷ x.home_name ∷ []) (codes "on" ∷ y.home_name ∷ []) rows)) in
+      let cut = first_same x.name y.name (codes "on" ∷ x.home_name ∷ []) (codes "on" ∷ y.home_name ∷ []) rows in
+      let names : x.name ≡ y.name = cut.0 in
+      let last = first_same (codes "on") (codes "on") (x.home_name ∷ []) (y.home_name ∷ []) cut.1 in
+      let homes : x.home_name ≡ y.home_name = (first_same x.home_name y.home_name [] [] last.1).0 in
       let ids : x.home ≡ y.home = same_node x.home y.home (at_same_place draft.nodes nodes_once x.home.0 y.home.0 x.home_name y.home_name homes x.declared y.declared) in
       x.is ∙ ap (λ (n : List ℕ). Client n x.home) names ∙ ap (λ (h : NodeId). Client y.name h) ids ∙ sym y.is
 
   both_gos : (behind : List (List ℕ)) → OfGo draft behind a → OfGo draft behind b → a ≡ b
   both_gos behind x y =
       let rows = sym x.follow.row ∙ y.follow.row in
-      let names : x.name ≡ y.name = first_same x.name y.name (x.follow.word ∷ []) (y.follow.word ∷ []) rows in
-      let words : x.follow.word ≡ y.follow.word = first_same x.follow.word y.follow.word [] [] (rest_same x.name y.name (x.follow.word ∷ []) (y.follow.word ∷ []) rows) in
+      let cut = first_same x.name y.name (x.follow.word ∷ []) (y.follow.word ∷ []) rows in
+      let names : x.name ≡ y.name = cut.0 in
+      let words : x.follow.word ≡ y.follow.word = (first_same x.follow.word y.follow.word [] [] cut.1).0 in
       let ids : x.client ≡ y.client = same_client x.client y.client (at_same_place draft.clients clients_once x.client.0 y.client.0 x.name y.name names x.declared y.declared) in
       let P : List ℕ → Type 0 = λ w. IsNumberWithin w 0 1000 x.steps in
       let steps : x.steps ≡ y.steps = one_number y.follow.word 0 1000 x.steps y.steps (lit≤ tt) (subst P words x.follow.is_number) y.follow.is_number in
@@ -152,7 +149,7 @@ module _ (draft : Draft) (nodes_once : StandOnce draft.nodes) (clients_once : St
 
   both_calls : (first : List ℕ) (behind : List (List ℕ)) → OfCall draft first behind a → OfCall draft first behind b → a ≡ b
   both_calls first behind x y =
-      let words : x.words ≡ y.words = rest_same (codes "update") (codes "update") x.words y.words (sym x.row ∙ y.row) in
+      let words : x.words ≡ y.words = (first_same (codes "update") (codes "update") x.words y.words (sym x.row ∙ y.row)).1 in
       let ids : x.client ≡ y.client = same_client x.client y.client (clients_once x.client.0 y.client.0 first x.declared y.declared) in
       let P : List (List ℕ) → Type 0 = λ w. AreEditWords w x.edit in
       let edits : x.edit ≡ y.edit = one_edit y.words x.edit y.edit (subst P words x.follow) y.follow in

@@ -32,23 +32,23 @@ word_at-code Stop = refl
 pub one_word : (a b : LineWord) → line_word a ≡ line_word b → a ≡ b
 one_word a b e = sym (word_at-code a) ∙ ap (λ text. word_at (code_of text)) e ∙ word_at-code b
 
-same_first : (a b : List ℕ) (behind more : List (List ℕ)) → a ∷ behind ≡ b ∷ more → (a ≡ b) × (behind ≡ more)
-same_first a b behind more e = (cc, cc)
+pub first_same : {X : Type 0} (a b : X) (more rest : List X) → a ∷ more ≡ b ∷ rest → (a ≡ b) × (more ≡ rest)
+first_same a b more rest e = (cc, cc)
 
 rows_agree : (words : List (List ℕ)) (a b : Row) → IsRow words a → IsRow words b → a ≡ b
 rows_agree words (keyword word behind) (keyword other more) is also =
-    let same = same_first (line_word word) (line_word other) behind more (sym is ∙ also) in
+    let same = first_same (line_word word) (line_word other) behind more (sym is ∙ also) in
     let named : word ≡ other = one_word word other same.0 in
     let follow : behind ≡ more = same.1 in
     cc
 rows_agree words (keyword word behind) (call first more) is also =
-    let same = same_first first (line_word word) more behind (sym also.0 ∙ is) in
+    let same = first_same first (line_word word) more behind (sym also.0 ∙ is) in
     absurd (also.1 word same.0)
 rows_agree words (call first behind) (keyword other more) is also =
-    let same = same_first first (line_word other) behind more (sym is.0 ∙ also) in
+    let same = first_same first (line_word other) behind more (sym is.0 ∙ also) in
     absurd (is.1 other same.0)
 rows_agree words (call first behind) (call second more) is also =
-    let same = same_first first second behind more (sym is.0 ∙ also.0) in
+    let same = first_same first second behind more (sym is.0 ∙ also.0) in
     let named : first ≡ second = same.0 in
     let follow : behind ≡ more = same.1 in
     cc

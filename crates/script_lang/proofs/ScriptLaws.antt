@@ -12,6 +12,7 @@ use Rattle.script_lang.specs.Spelling.{LineSpells}
 use Rattle.script_lang.proofs.KeepsLemmas.{KeepsDraft, empty_keeps, keeps_more}
 use Rattle.script_lang.proofs.LeastFault.{one_fault_of_number}
 use Rattle.script_lang.proofs.OneMeaning.{one_meaning}
+use Rattle.script_lang.proofs.OneRow.{first_same}
 use Rattle.script_lang.proofs.ReadSoFar.{length_said}
 
 module _ (mode : Mode) where
@@ -62,9 +63,6 @@ module _ (mode : Mode) where
       let P : Line → Type 0 = λ u. AllSay mode (before ++ u ∷ []) front said in
       let Q : Line → Type 0 = λ u. BreaksBehind ((before ++ u ∷ []) ++ said) line in
       sound (before ++ s ∷ []) front line behind all said x.1 (subst P (sym same) y.1) (keeps_more mode before first s keeps x.0) (subst Q (sym same) (moved before said t line broken))
-
-  first_same : {X : Type 0} (a b : X) (more rest : List X) → a ∷ more ≡ b ∷ rest → (a ≡ b) × (more ≡ rest)
-  first_same a b more rest e = (cc, cc)
 
   -- two first faulty lines are the same
   agree : (before : List Line) (front fore : List (List ℕ)) (line other : List ℕ) (behind rest : List (List ℕ)) (a b : List Line) → front ++ line ∷ behind ≡ fore ++ other ∷ rest

@@ -56,7 +56,7 @@ one_pair words key other a b x y =
     let same : x.content ≡ y.content = cc in
     (one_key_word x.word y.word key other (cc) x.is_key y.is_key, one_content x.content y.content a b names same x.is_value y.is_value)
 
-int_fits : (z : ℤ) → FitsSigned w32 z → FitsSigned w64 z
+pub int_fits : (z : ℤ) → FitsSigned w32 z → FitsSigned w64 z
 int_fits z fits = record { sfits = omega (arith, fits.sfits) }
 
 one_follow : (words : List (List ℕ)) (a b : EditStep) → kind_of_step a ≡ kind_of_step b → Follow words a → Follow words b → a ≡ b

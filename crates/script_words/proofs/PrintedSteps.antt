@@ -27,6 +27,7 @@ use Rattle.script_words.specs.StepKind.{kind_of_step, step_word}
 use Rattle.script_words.specs.StepWords.{AreKey, AreKeyAndAmount, AreKeyAndText, AreKeyAndValue, AreStepWords}
 use Rattle.script_words.specs.declared.step_kind.StepKind.{StepKind}
 use Rattle.script_words.specs.declared.step_kind.StepKind.TheVariants as kind
+use Rattle.script_words.proofs.OneEdit.{int_fits}
 use Rattle.script_words.proofs.PrintedScalars.{IsPrinted, printed_by_test, printed_plain, plain_signed, printed_quoted, printed_value}
 
 -- the words behind the step's name
@@ -95,9 +96,6 @@ printed_number : (width : Width) (amount : ℤ) → ((z : ℤ) → FitsSigned wi
 printed_number width amount widens fits =
     let wide = widens amount fits in
     printed_plain (signed_decimal amount) (plain_signed amount (omega (arith, wide.sfits)))
-
-int_fits : (z : ℤ) → FitsSigned w32 z → FitsSigned w64 z
-int_fits z fits = record { sfits = omega (arith, fits.sfits) }
 
 printed_behind : (step : EditStep) → IsStep step → AmountFits step → All IsPrinted (words_behind step)
 printed_behind (Set key value) is fits = printed_pair key value is.1

@@ -20,23 +20,16 @@ use Rattle.shelf.specs.Entries.{is_any, is_own, is_update, some_entry}
 use Rattle.shelf.specs.Images.{is_synced}
 use Rattle.shelf.specs.Places.{Follows, HasFront, StandsAt, is_up_to}
 use Rattle.shelf.specs.World.{Rules}
-use Rattle.shelf.proofs.Bools.{never}
+use Rattle.shelf.proofs.Bools.{never, none_in_both, own_first}
 use Rattle.shelf.proofs.RaiseLemmas.{none_of_fewer}
-
--- neither of two parts has an element that passes
-none_in_both : {X : Type 0} (p : X → Bool) (xs ys : List X) → list_any p xs ≡ false → list_any p ys ≡ false → list_any p (xs ++ ys) ≡ false
-none_in_both p xs ys first second = list_any-append p xs ys ∙ rw (first, second) refl
-
-own_first : (own kind : Bool) → (own && true) ≡ false → (own && kind) ≡ false
-own_first true kind none = never (sym none)
-own_first false kind none = refl
 
 no_earlier : (call who : CallId) → ((call.client.0 == who.client.0) && nat_le who.number call.number) ≡ false → is_call call who ≡ false
 no_earlier call who none = grind (arith, nat_tests, none)
 
 module _ {V T : Type 0} where
   module _ (call : CallId) where
-    no_kind : (is_kind : KindSeen V T → Bool) (list : List (EntrySeen V T)) → list_any (is_own is_any call) list ≡ false → list_any (is_own is_kind call) list ≡ false
+    -- where no entry is of the call, none of some kind is
+    pub no_kind : (is_kind : KindSeen V T → Bool) (list : List (EntrySeen V T)) → list_any (is_own is_any call) list ≡ false → list_any (is_own is_kind call) list ≡ false
     no_kind is_kind list = none_of_fewer (is_own is_kind call) (is_own is_any call) list (λ e none. own_first (is_call call e.who) (is_kind e.kind) none)
 
     -- where no entry is of a call of this client up to this one, none is of this one

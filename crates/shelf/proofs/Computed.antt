@@ -1,8 +1,8 @@
 -- A history of a store of numbers that is written down is shown lawful by computing a test of it.
-use Rattle.std.proofs.Common.{◌≡◌, ◌≢◌, ℕ, ◌==◌, nat_lt, Bool, true, false, ◌&&◌, not, List, [], ◌∷◌, ◌++◌, Option, Some, None, refl, arith, append_assoc, append-nil}
+use Rattle.std.proofs.Common.{◌≡◌, ℕ, ◌==◌, nat_lt, Bool, true, false, ◌&&◌, not, List, [], ◌∷◌, ◌++◌, Option, Some, None, refl, arith, append_assoc, append-nil}
 use Rattle.std.specs.List.{list_any}
 use Rattle.std.proofs.lemmas.Bool.Decides.{nat_tests}
-use Rattle.std.proofs.lemmas.Bool.{eqb-true, eq-eqb}
+use Rattle.std.proofs.lemmas.Bool.{eqb-true, and_parts, not-true, eqb-false}
 use Rattle.store_traits.specs.declared.applied.Applied.{Applied}
 use Rattle.store_traits.specs.declared.applied.Applied.TheVariants.{Changed, Refused}
 use Rattle.store_traits.specs.declared.ids.CallId.{CallId}
@@ -23,16 +23,8 @@ use Rattle.shelf.specs.OpenRaise.{has_open_raise}
 use Rattle.shelf.specs.Readiness.{Initialises}
 use Rattle.shelf.proofs.EntryByEntry.{Needs, fits_where, is_placed}
 use Rattle.shelf.proofs.LegalLemmas.{Legal-empty, Legal-push}
-use Rattle.shelf.proofs.Bools.{both_parts, never, not_true}
-
-abbrev numbered : ℕ → NodeId
-numbered n = record { 0 = n }
-
-same_node : (a b : NodeId) → is_node a b ≡ true → a ≡ b
-same_node a b is = let number : a.0 ≡ b.0 = eqb-true a.0 b.0 is in let same : numbered a.0 ≡ numbered b.0 = rw number refl in same
-
-other_number : (a b : ℕ) → not (a == b) ≡ true → a ≢ b
-other_number a b is same = never (let equal : (a == b) ≡ true = eq-eqb a b same in let unequal : (a == b) ≡ false = not_true (a == b) is in cc)
+use Rattle.shelf.proofs.Bools.{never}
+use Rattle.shelf.proofs.StepLemmas.{same_node}
 
 abbrev is_other : ℕ → Applied ℕ → Bool
 is_other old (Changed new) = not (new == old)
@@ -60,7 +52,7 @@ module _ {T M : Type 0} (m : Meanings ℕ T) (s : Store ℕ M) where
   keeps other t = false
 
   changes_to : (old : ℕ) (t : T) (made : Applied ℕ) → m.after t old ≡ made → is_other old made ≡ true → ChangesValue m.after s.handler (Held old) t
-  changes_to old t (Changed new) makes other = record { old = old; new = new; held = refl; makes = makes; differs = other_number new old other }
+  changes_to old t (Changed new) makes other = record { old = old; new = new; held = refl; makes = makes; differs = eqb-false new old (not-true (new == old) other) }
   changes_to old t (Refused code) makes other = never other
 
   changes_so : (value : BaseSeen ℕ) (t : T) → changes value t ≡ true → ChangesValue m.after s.handler value t
@@ -98,33 +90,33 @@ module _ {T M : Type 0} (m : Meanings ℕ T) (s : Store ℕ M) where
     is_given other = true
 
     inited_so : (value : BaseSeen ℕ) (node : NodeId) → is_node node who.node ≡ true → not (is_ready who.node before) ≡ true → is_held value ≡ true → Initialises value before who node
-    inited_so (Held v) node named unready held = record { named = same_node node who.node named; unready = not_true (is_ready who.node before) unready; readable = v; held = refl }
+    inited_so (Held v) node named unready held = record { named = same_node node who.node named; unready = not-true (is_ready who.node before) unready; readable = v; held = refl }
     inited_so Corrupt node named unready held = never held
     inited_so (TooLong len) node named unready held = never held
 
     given_so : (kind : KindSeen ℕ T) → is_given kind ≡ true → Needs m s before who kind
     given_so Raise is = tt
     given_so (Edit t) is =
-        let open_and = both_parts (has_open_raise who before) (is_ready who.node before && changes (value_at m s before) t) is in
-        let ready_and = both_parts (is_ready who.node before) (changes (value_at m s before) t) open_and.1 in
+        let open_and = and_parts (has_open_raise who before) (is_ready who.node before && changes (value_at m s before) t) is in
+        let ready_and = and_parts (is_ready who.node before) (changes (value_at m s before) t) open_and.1 in
         (open_and.0, ready_and.0, changes_so (value_at m s before) t ready_and.1)
     given_so (Same t) is =
-        let ready_and = both_parts (is_ready who.node before) (keeps (value_at m s before) t) is in
+        let ready_and = and_parts (is_ready who.node before) (keeps (value_at m s before) t) is in
         (ready_and.0, keeps_so (value_at m s before) t ready_and.1)
     given_so (Replace v) is =
-        let open_and = both_parts (has_open_raise who before) (is_replaced (value_at m s before) s.handler v) is in
+        let open_and = and_parts (has_open_raise who before) (is_replaced (value_at m s before) s.handler v) is in
         (open_and.0, replaces_so (value_at m s before) s.handler v open_and.1)
     given_so (Migrate names v) is = never is
     given_so Synced is = tt
     given_so (Cleared name) is = never is
     given_so (Inited node) is =
-        let named_and = both_parts (is_node node who.node) (not (is_ready who.node before) && is_held (value_at m s before)) is in
-        let unready_and = both_parts (not (is_ready who.node before)) (is_held (value_at m s before)) named_and.1 in
+        let named_and = and_parts (is_node node who.node) (not (is_ready who.node before) && is_held (value_at m s before)) is in
+        let unready_and = and_parts (not (is_ready who.node before)) (is_held (value_at m s before)) named_and.1 in
         inited_so (value_at m s before) node named_and.0 unready_and.0 unready_and.1
     given_so (Fault device count) is =
-        let parts = both_parts (nat_lt (count_at_start s device) count) (not (list_any (λ (e : EntrySeen ℕ T). has_reached device count e.kind) before)) is in
+        let parts = and_parts (nat_lt (count_at_start s device) count) (not (list_any (λ (e : EntrySeen ℕ T). has_reached device count e.kind) before)) is in
         let less : nat_lt (count_at_start s device) count ≡ true = parts.0 in
-        record { start = grind (arith, nat_tests, less); earlier = not_true (list_any (λ (e : EntrySeen ℕ T). has_reached device count e.kind) before) parts.1 }
+        record { start = grind (arith, nat_tests, less); earlier = not-true (list_any (λ (e : EntrySeen ℕ T). has_reached device count e.kind) before) parts.1 }
     given_so (Death node) is = same_node node who.node is
     given_so (Restart node) is = is
 
@@ -136,8 +128,8 @@ module _ {T M : Type 0} (m : Meanings ℕ T) (s : Store ℕ M) where
   Legal-rest : (before rest : List (EntrySeen ℕ T)) → Legal m s before → all_fit before rest ≡ true → Legal m s (before ++ rest)
   Legal-rest before [] legal fit = rw append-nil legal
   Legal-rest before (e ∷ es) legal fit =
-      let both = both_parts (is_placed before e && is_given before e.who e.kind) (all_fit (before ++ e ∷ []) es) fit in
-      let here = both_parts (is_placed before e) (is_given before e.who e.kind) both.0 in
+      let both = and_parts (is_placed before e && is_given before e.who e.kind) (all_fit (before ++ e ∷ []) es) fit in
+      let here = and_parts (is_placed before e) (is_given before e.who e.kind) both.0 in
       let longer : Legal m s (before ++ e ∷ []) = Legal-push m s before e legal (fits_where m s before e here.0 (given_so before e.who e.kind here.1)) in
       rw (← append_assoc before (e ∷ []) es) (Legal-rest (before ++ e ∷ []) es longer both.1)
 

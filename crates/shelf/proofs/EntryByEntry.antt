@@ -1,5 +1,6 @@
 -- When an entry fits: where it has its place, and what its kind needs.
 use Rattle.std.proofs.Common.{◌≡◌, inl, Bool, true, false, ◌&&◌, not, List, if◌then◌else◌}
+use Rattle.std.proofs.lemmas.Bool.{and_parts, not-true}
 use Rattle.std.specs.List.{list_any}
 use Rattle.store_traits.specs.declared.ids.CallId.{CallId}
 use Rattle.hist_journal.specs.declared.seen.EntrySeen.{EntrySeen}
@@ -15,7 +16,7 @@ use Rattle.shelf.specs.Legal.{Fits, value_at}
 use Rattle.shelf.specs.Meanings.{Meanings}
 use Rattle.shelf.specs.OpenRaise.{has_open_raise}
 use Rattle.shelf.specs.Readiness.{Initialises}
-use Rattle.shelf.proofs.Bools.{both_parts, never, not_true}
+use Rattle.shelf.proofs.Bools.{never}
 
 module _ {V T : Type 0} (before : List (EntrySeen V T)) (e : EntrySeen V T) where
   abbrev has_update : Bool
@@ -40,20 +41,20 @@ module _ {V T : Type 0} (before : List (EntrySeen V T)) (e : EntrySeen V T) wher
 
   ends_so : ends_update ≡ true → EndsUpdate before e
   ends_so is =
-      let parts : (is_update_end e.kind ≡ true) × (not (some_entry (is_ended_update e.who) before) ≡ true) = both_parts (is_update_end e.kind) (not (some_entry (is_ended_update e.who) before)) is in
-      record { ends = parts.0; first = not_true (some_entry (is_ended_update e.who) before) parts.1 }
+      let parts : (is_update_end e.kind ≡ true) × (not (some_entry (is_ended_update e.who) before) ≡ true) = and_parts (is_update_end e.kind) (not (some_entry (is_ended_update e.who) before)) is in
+      record { ends = parts.0; first = not-true (some_entry (is_ended_update e.who) before) parts.1 }
 
   placed : is_placed ≡ true → Placed
   placed is =
-      let halves = both_parts (not (is_dead e.who.node before) && not (list_any (is_later e.who) before)) _ is in
-      let early = both_parts (not (is_dead e.who.node before)) (not (list_any (is_later e.who) before)) halves.0 in
-      let late = both_parts (not (list_any (is_own is_fault_or_death e.who) before)) (if has_update then ends_update else true) halves.1 in
+      let halves = and_parts (not (is_dead e.who.node before) && not (list_any (is_later e.who) before)) _ is in
+      let early = and_parts (not (is_dead e.who.node before)) (not (list_any (is_later e.who) before)) halves.0 in
+      let late = and_parts (not (list_any (is_own is_fault_or_death e.who) before)) (if has_update then ends_update else true) halves.1 in
       record {
-        lives = not_true (is_dead e.who.node before) early.0;
+        lives = not-true (is_dead e.who.node before) early.0;
         order =
             record {
-              numbers = not_true (list_any (is_later e.who) before) early.1;
-              goes_on = not_true (list_any (is_own is_fault_or_death e.who) before) late.0;
+              numbers = not-true (list_any (is_later e.who) before) early.1;
+              goes_on = not-true (list_any (is_own is_fault_or_death e.who) before) late.0;
               update = λ has. ends_so (update_ended has_update ends_update late.1 has);
             };
       }

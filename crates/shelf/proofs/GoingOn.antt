@@ -1,8 +1,7 @@
 -- A call that goes on: what may be its next entry.
-use Rattle.std.proofs.Common.{◌≡◌, ◌∙◌, Bool, true, false, ◌||◌, ◌&&◌, ◌==◌, nat_lt, not, ℕ, List, [], ◌∷◌, ◌++◌, None, unwrap_or, refl, sym, ap, arith}
+use Rattle.std.proofs.Common.{◌≡◌, ◌∙◌, Bool, true, false, ◌||◌, ◌&&◌, ◌==◌, not, List, [], ◌∷◌, ◌++◌, None, unwrap_or, refl, sym, ap}
 use Rattle.std.specs.List.{list_any}
-use Rattle.std.proofs.lemmas.Bool.Decides.{nat_tests}
-use Rattle.std.proofs.lemmas.List.Folds.{list_any-append}
+use Rattle.std.proofs.lemmas.Bool.{and_right}
 use Rattle.store_traits.specs.declared.ids.CallId.{CallId}
 use Rattle.hist_journal.specs.declared.device.Device.TheVariants.{Folder}
 use Rattle.hist_journal.specs.declared.seen.BaseSeen.TheVariants.{Held}
@@ -19,17 +18,10 @@ use Rattle.shelf.specs.Legal.{Fits, value_at}
 use Rattle.shelf.specs.Meanings.{Meanings}
 use Rattle.shelf.specs.OpenRaise.{has_open_raise}
 use Rattle.shelf.specs.ShelfTurns.{FaultFits}
-use Rattle.shelf.proofs.Bools.{never}
+use Rattle.shelf.proofs.Bools.{never, not_later, one_more}
 use Rattle.shelf.proofs.LateCallLemmas.{EndsOn, late_synced_fits, late_fault}
 use Rattle.shelf.proofs.PendingLemmas.{has_open_raise-push}
 use Rattle.shelf.proofs.StepLemmas.{itself}
-
-not_later : (same : Bool) (number : ℕ) → (same && nat_lt number number) ≡ false
-not_later same number = grind (arith, nat_tests)
-
-own_none : (own kind : Bool) → kind ≡ false → (own && kind) ≡ false
-own_none true kind none = none
-own_none false kind none = refl
 
 module _ {V T : Type 0} (call : CallId) where
   -- its node lives, no later call of its client has an entry, and neither a Fault, a Death nor an update of it stands
@@ -44,9 +36,6 @@ module _ {V T : Type 0} (call : CallId) where
   is_early Raise = true
   is_early (Inited node) = true
   is_early other = false
-
-  one_more : (p : EntrySeen V T → Bool) (list : List (EntrySeen V T)) (e : EntrySeen V T) → list_any p list ≡ false → p e ≡ false → list_any p (list ++ e ∷ []) ≡ false
-  one_more p list e were is = list_any-append p list (e ∷ []) ∙ rw (were, is) refl
 
   early_ends_nothing : (kind : KindSeen V T) → is_early kind ≡ true → is_fault_or_death kind ≡ false
   early_ends_nothing Raise early = refl
@@ -70,8 +59,8 @@ module _ {V T : Type 0} (call : CallId) where
       record {
         lives = is_dead-push call.node list e ∙ (ap (λ mark. unwrap_or mark (is_dead call.node list)) (early_kills_nothing kind early) ∙ g.lives);
         numbers = one_more (is_later call) list e g.numbers (not_later (call.client.0 == call.client.0) call.number);
-        unended = one_more (is_own is_fault_or_death call) list e g.unended (own_none _ _ (early_ends_nothing kind early));
-        unchanged = one_more (is_own is_update call) list e g.unchanged (own_none _ _ (early_updates_nothing kind early));
+        unended = one_more (is_own is_fault_or_death call) list e g.unended (and_right _ _ (early_ends_nothing kind early));
+        unchanged = one_more (is_own is_update call) list e g.unchanged (and_right _ _ (early_updates_nothing kind early));
       }
 
   -- a call of which nothing is told yet
@@ -121,7 +110,7 @@ module _ {V T : Type 0} (call : CallId) where
       record {
         lives = is_dead-push call.node list e ∙ (ap (λ mark. unwrap_or mark (is_dead call.node list)) (update_kills_nothing kind update) ∙ g.lives);
         numbers = one_more (is_later call) list e g.numbers (not_later (call.client.0 == call.client.0) call.number);
-        unended = one_more (is_own is_fault_or_death call) list e g.unended (own_none _ _ (update_ends_nothing kind update));
+        unended = one_more (is_own is_fault_or_death call) list e g.unended (and_right _ _ (update_ends_nothing kind update));
         first = none_ended-push list e g.unchanged;
       }
 

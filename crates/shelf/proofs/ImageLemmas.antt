@@ -2,7 +2,7 @@
 use Rattle.std.proofs.Common.{◌≡◌, ◌∙◌, Bool, true, false, ◌||◌, List, [], ◌∷◌, ◌++◌, refl, ap, cond, append_assoc, append-nil, ℕ, sym, Option, All}
 use Rattle.std.proofs.Math.Bool.{or-false}
 use Rattle.std.proofs.lemmas.List.Folds.{list_any-append}
-use Rattle.std.proofs.lemmas.Bool.{or_parts}
+use Rattle.std.proofs.lemmas.Bool.{or_parts, or_right}
 use Rattle.std.proofs.lemmas.List.Elements.{All-cons, All-nil}
 use Rattle.hist_journal.specs.declared.seen.EntrySeen.{EntrySeen}
 use Rattle.hist_journal.specs.declared.seen.KindSeen.{KindSeen}
@@ -12,7 +12,7 @@ use Rattle.hist_journal.specs.Kinds.{is_change}
 use Rattle.shelf.specs.declared.store.Store.{Store}
 use Rattle.shelf.specs.Images.{IsMainSinceSynced, is_synced, has_synced, kept_front, unkept, main_at, changed_mains, images}
 use Rattle.shelf.specs.Meanings.{Meanings}
-use Rattle.shelf.proofs.Bools.{never, or_second}
+use Rattle.shelf.proofs.Bools.{never}
 
 -- a choice between lists, with more at the end
 chosen_more : {X : Type 0} (b : Bool) (longer short list more : List X) → longer ≡ short ++ more → cond b longer (list ++ more) ≡ cond b short list ++ more
@@ -33,7 +33,7 @@ module _ {V T : Type 0} where
   has_synced-push list e = list_any-append (λ (x : EntrySeen V T). is_synced x.kind) list (e ∷ []) ∙ ap (λ b. has_synced list || b) (or-false (is_synced e.kind))
 
   has_synced-last : (list : List (EntrySeen V T)) (e : EntrySeen V T) → is_synced e.kind ≡ true → has_synced (list ++ e ∷ []) ≡ true
-  has_synced-last list e synced = has_synced-push list e ∙ or_second (has_synced list) (is_synced e.kind) synced
+  has_synced-last list e synced = has_synced-push list e ∙ or_right (has_synced list) (is_synced e.kind) synced
 
   has_synced-other : (list : List (EntrySeen V T)) (e : EntrySeen V T) → is_synced e.kind ≡ false → has_synced (list ++ e ∷ []) ≡ has_synced list
   has_synced-other list e other = has_synced-push list e ∙ (ap (λ b. has_synced list || b) other ∙ or-false (has_synced list))

@@ -4,6 +4,7 @@ use Rattle.std.proofs.Math.Logic.{∥∥₁_map}
 use Rattle.std.specs.List.{list_any, list_all}
 use Rattle.std.proofs.lemmas.Bool.Decides.{nat_tests}
 use Rattle.std.proofs.lemmas.List.Folds.{list_any-append}
+use Rattle.std.proofs.lemmas.Bool.{and_parts}
 use Rattle.store_traits.specs.Faults.{Rose}
 use Rattle.store_traits.specs.declared.ids.CallId.{CallId}
 use Rattle.folder_disk.specs.declared.call.FolderCall.{FolderCall}
@@ -27,7 +28,7 @@ use Rattle.shelf.specs.Plans.{WritesChange}
 use Rattle.shelf.specs.ShelfTurns.{FitInTurn, FaultFits}
 use Rattle.shelf.specs.StoreSeen.{store_with}
 use Rattle.shelf.specs.World.{Rules, weight_at}
-use Rattle.shelf.proofs.Bools.{never, both_parts}
+use Rattle.shelf.proofs.Bools.{never}
 use Rattle.shelf.proofs.LegalLemmas.{Legal-push}
 
 -- what a turn leaves of the start of the session, as the folder tells it
@@ -149,7 +150,7 @@ module _ {V T M : Type 0} (r : Rules V T) (I : V → Type 0) where
       push_kinds call [] c count weight added list plain fits weighs k =
           let same = no_heavier (weight_of r.weight (λ v. length (r.encoded v)) list) weight added k.weight_now weighs in subst (λ (w : ℕ). Kept r I s told c count w list) (sym same) k
       push_kinds call (kind ∷ kinds) c count weight added list plain fits weighs k =
-          let all = both_parts (is_plain kind) (list_all is_plain kinds) plain in
+          let all = and_parts (is_plain kind) (list_all is_plain kinds) plain in
           let e : EntrySeen V T = record { who = call; kind = kind } in
           let one = push_plain c count weight (weight_by r kind) list e all.0 (λ is. (fits is).0) refl k in
           let rest = push_kinds call kinds c count (min (weight + weight_by r kind) (2 ^ 64 - 1)) (weight_of_kinds r kinds) (list ++ e ∷ []) all.1 (λ is. (fits is).1) refl one in

@@ -1,11 +1,10 @@
 -- A ledger with one more entry.
-use Rattle.std.proofs.Common.{◌≡◌, ◌∙◌, ◌+◌, ◌-◌, ◌≤◌, ◌==◌, ◌⊎◌, inl, inr, ⊎_elim, ℕ, Bool, true, false, ◌||◌, ◌&&◌, List, [], ◌∷◌, ◌++◌, Option, Some, None, unwrap_or, cond, length, suc, refl, sym, ap, arith}
+use Rattle.std.proofs.Common.{◌≡◌, ◌∙◌, ◌+◌, ◌-◌, ◌≤◌, ◌⊎◌, inl, inr, ⊎_elim, ℕ, Bool, true, false, ◌||◌, List, [], ◌∷◌, ◌++◌, Option, Some, None, unwrap_or, cond, length, suc, refl, sym, ap, arith}
 use Rattle.std.specs.List.{list_any}
-use Rattle.std.proofs.lemmas.Bool.{eqb-true}
+use Rattle.std.proofs.lemmas.Bool.{false_from_ne_true}
 use Rattle.std.proofs.lemmas.List.Folds.{list_any-append}
 use Rattle.store_traits.specs.declared.ids.CallId.{CallId}
 use Rattle.store_traits.specs.declared.ids.NodeId.{NodeId}
-use Rattle.store_traits.specs.declared.ids.ClientId.{ClientId}
 use Rattle.hist_journal.specs.declared.device.Device.TheVariants.{Folder}
 use Rattle.hist_journal.specs.declared.seen.EntrySeen.{EntrySeen}
 use Rattle.hist_journal.specs.declared.seen.KindSeen.{KindSeen}
@@ -23,25 +22,9 @@ use Rattle.shelf.specs.Entries.{is_death}
 use Rattle.shelf.specs.Ledger.{freed_room, is_inner}
 use Rattle.shelf.specs.NodeStates.{ids, has_node, has_ready}
 use Rattle.shelf.specs.AddsNode.{is_among}
-use Rattle.shelf.proofs.Bools.{never, both_parts}
-use Rattle.shelf.proofs.StepLemmas.{itself}
-
-abbrev made : NodeId → ClientId → ℕ → CallId
-made node client number = record { node = node; client = client; number = number }
-
--- calls that are the same by their numbers
-same_call : (a b : CallId) → is_call a b ≡ true → a ≡ b
-same_call a b is =
-    let outer = both_parts (is_node a.node b.node && (a.client.0 == b.client.0)) (a.number == b.number) is in
-    let inner = both_parts (is_node a.node b.node) (a.client.0 == b.client.0) outer.0 in
-    let node : a.node ≡ b.node = ap (λ (n : ℕ). let it : NodeId = record { 0 = n } in it) (eqb-true a.node.0 b.node.0 inner.0) in
-    let client : a.client ≡ b.client = ap (λ (n : ℕ). let it : ClientId = record { 0 = n } in it) (eqb-true a.client.0 b.client.0 inner.1) in
-    let number : a.number ≡ b.number = eqb-true a.number b.number outer.1 in
-    ap (λ (n : NodeId). made n a.client a.number) node ∙ (ap (λ (c : ClientId). made b.node c a.number) client ∙ ap (λ (n : ℕ). made b.node b.client n) number)
-
-not_so : (b : Bool) → (b ≡ true → ⊥) → b ≡ false
-not_so true refuted = absurd (refuted refl)
-not_so false refuted = refl
+use Rattle.shelf.proofs.Bools.{never}
+use Rattle.shelf.proofs.PendingLemmas.{still_open}
+use Rattle.shelf.proofs.StepLemmas.{itself, same_call}
 
 -- whoever owns the lock owns nothing once it is freed
 pub freed_own : (call : CallId) (owner : Option CallId) → owner ≡ Some call → freed call owner ≡ None
@@ -53,19 +36,11 @@ freed_room_own call owner room is = rw (is, itself call) refl
 -- another owner stays
 pub freed_other : (call : CallId) (owner : Option CallId) → (owner ≡ Some call → ⊥) → freed call owner ≡ owner
 freed_other call None other = refl
-freed_other call (Some owner) other = rw (not_so (is_call call owner) (λ is. other (ap Some (sym (same_call call owner is))))) refl
+freed_other call (Some owner) other = rw (false_from_ne_true (is_call call owner) (λ is. other (ap Some (sym (same_call call owner is))))) refl
 
 pub freed_room_other : (call : CallId) (owner : Option CallId) (room : ℕ) → (owner ≡ Some call → ⊥) → freed_room call owner room ≡ room
 freed_room_other call None room other = refl
-freed_room_other call (Some owner) room other = rw (not_so (is_call call owner) (λ is. other (ap Some (sym (same_call call owner is))))) refl
-
-still_open : (is_ended : CallId → Bool) (p : Option CallId) (call : CallId) → still_pending is_ended p ≡ Some call → (p ≡ Some call) × (is_ended call ≡ false)
-still_open is_ended None call is = absurd cc
-still_open is_ended (Some open_call) call is = kept_open (is_ended open_call) refl is
-  where
-    kept_open : (b : Bool) → is_ended open_call ≡ b → cond b None (Some open_call) ≡ Some call → (Some open_call ≡ Some call) × (is_ended call ≡ false)
-    kept_open true ended is = absurd cc
-    kept_open false ended is = let same : open_call ≡ call = cc in (is, ap is_ended (sym same) ∙ ended)
+freed_room_other call (Some owner) room other = rw (false_from_ne_true (is_call call owner) (λ is. other (ap Some (sym (same_call call owner is))))) refl
 
 -- a mark of the node itself
 marked : (b was : Bool) → unwrap_or (mark_if b true) was ≡ (b || was)

@@ -6,7 +6,7 @@ use Rattle.shelf.specs.declared.store.Store.{Store}
 use Rattle.shelf.specs.Legal.{Fits, Legal}
 use Rattle.shelf.specs.Meanings.{Meanings}
 
-nothing_stands_in_none : {X : Type 0} (before behind : List X) (x : X) → [] ≡ before ++ x ∷ behind → ⊥
+pub nothing_stands_in_none : {X : Type 0} (before behind : List X) (x : X) → [] ≡ before ++ x ∷ behind → ⊥
 nothing_stands_in_none [] behind x e = cc
 nothing_stands_in_none (y ∷ before) behind x e = cc
 

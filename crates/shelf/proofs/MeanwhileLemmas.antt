@@ -2,7 +2,7 @@
 use Rattle.std.proofs.Common.{◌≡◌, ◌∙◌, ◌≤◌, ℕ, Bool, true, false, ◌||◌, ◌&&◌, List, [], ◌∷◌, ◌++◌, drop, length, Option, Some, None, unwrap_or, refl, sym, ap, append_assoc, append-nil}
 use Rattle.std.specs.List.{list_any}
 use Rattle.std.proofs.Math.Bool.{or-false}
-use Rattle.std.proofs.lemmas.Bool.{or_parts}
+use Rattle.std.proofs.lemmas.Bool.{or_parts, and_parts}
 use Rattle.std.proofs.lemmas.List.{drop-append-le}
 use Rattle.std.proofs.lemmas.List.Folds.{list_any-append}
 use Rattle.store_traits.specs.declared.applied.Applied.{Applied}
@@ -21,14 +21,9 @@ use Rattle.shelf.specs.CallOrder.{is_ended_update, is_later}
 use Rattle.shelf.specs.Deaths.{died_since, has_died}
 use Rattle.shelf.specs.Entries.{some_entry, is_any, is_fault_or_death, is_own, is_update}
 use Rattle.shelf.specs.Meanwhile.{NoDeathOf, NoneOf, are_outer, is_outer}
-use Rattle.shelf.proofs.Bools.{both_parts, never}
+use Rattle.shelf.proofs.Bools.{never, own_first}
 use Rattle.shelf.proofs.GoingOn.{GoesOn, none_ended}
 use Rattle.shelf.proofs.LateCallLemmas.{EndsOn}
-
--- what is of no such call is of no kind of it
-not_of : (own is_kind : Bool) → (own && true) ≡ false → (own && is_kind) ≡ false
-not_of false is_kind other = refl
-not_of true is_kind other = never (sym other)
 
 module _ {V T : Type 0} where
   -- what others may add is neither a value change nor a Raise
@@ -62,7 +57,7 @@ module _ {V T : Type 0} where
 
   -- the first of the entries, and the others
   pub outer_parts : (e : EntrySeen V T) (behind : List (EntrySeen V T)) → are_outer (e ∷ behind) ≡ true → (is_outer e.kind ≡ true) × (are_outer behind ≡ true)
-  outer_parts e behind outer = both_parts (is_outer e.kind) (are_outer behind) outer
+  outer_parts e behind outer = and_parts (is_outer e.kind) (are_outer behind) outer
 
   pub other_parts : (call : CallId) (e : EntrySeen V T) (behind : List (EntrySeen V T)) → NoneOf call (e ∷ behind) → ((is_call call e.who && true) ≡ false) × NoneOf call behind
   other_parts call e behind none = or_parts (is_call call e.who && true) (list_any (is_own is_any call) behind) none
@@ -104,7 +99,7 @@ module _ {V T : Type 0} where
           → (list_any (is_own is_kind call) (xs ++ e ∷ []) ≡ list_any (is_own is_kind call) xs) × NoneOf call es
       step xs e es fit =
           let parts = other_parts call e es fit in
-          (list_any-append (is_own is_kind call) xs (e ∷ []) ∙ rw (not_of (is_call call e.who) (is_kind e.kind) parts.0) (or-false (list_any (is_own is_kind call) xs)), parts.1)
+          (list_any-append (is_own is_kind call) xs (e ∷ []) ∙ rw (own_first (is_call call e.who) (is_kind e.kind) parts.0) (or-false (list_any (is_own is_kind call) xs)), parts.1)
 
   -- and so is what stands behind its update
   pub ended_update : (call : CallId) (list more : List (EntrySeen V T)) → NoneOf call more → some_entry (is_ended_update call) (list ++ more) ≡ some_entry (is_ended_update call) list

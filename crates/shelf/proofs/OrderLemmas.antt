@@ -1,7 +1,7 @@
 -- Two entries of a lawful history.
 use Rattle.std.proofs.Common.{◌≡◌, ◌∙◌, ◌⊎◌, inl, inr, ⊎_elim, ℕ, ◌<◌, ◌≤◌, ◌-◌, ◌^◌, ◌==◌, nat_lt, nat_le, Bool, true, false, ◌&&◌, List, [], ◌∷◌, ◌++◌, refl, sym, ap, arith, append_assoc}
 use Rattle.std.specs.List.{list_any}
-use Rattle.std.proofs.lemmas.Bool.{eq-eqb, or_parts}
+use Rattle.std.proofs.lemmas.Bool.{eq-eqb, or_parts, or_cases, or_right}
 use Rattle.std.proofs.lemmas.Bool.Decides.{nat_tests}
 use Rattle.store_traits.specs.declared.ids.CallId.{CallId}
 use Rattle.hist_journal.specs.declared.device.Device.{Device}
@@ -17,7 +17,7 @@ use Rattle.shelf.specs.FaultCounts.{IsNewCount, RaisesCount, is_device, has_reac
 use Rattle.shelf.specs.Legal.{Fits, Legal}
 use Rattle.shelf.specs.Meanings.{Meanings}
 use Rattle.shelf.specs.OpenRaise.{EndsInRaise, has_open_raise, is_open_raise}
-use Rattle.shelf.proofs.Bools.{never, or_either, or_second}
+use Rattle.shelf.proofs.Bools.{never}
 use Rattle.shelf.proofs.RaiseLemmas.{raise_of_open}
 
 -- what no element passes, this one does not
@@ -27,7 +27,7 @@ none_here p (y ∷ front) rest x none = none_here p front rest x (or_parts (p y)
 
 some_here : {X : Type 0} (p : X → Bool) (front rest : List X) (x : X) → p x ≡ true → list_any p (front ++ x ∷ rest) ≡ true
 some_here p [] rest x passes = rw passes refl
-some_here p (y ∷ front) rest x passes = or_second (p y) (list_any p (front ++ x ∷ rest)) (some_here p front rest x passes)
+some_here p (y ∷ front) rest x passes = or_right (p y) (list_any p (front ++ x ∷ rest)) (some_here p front rest x passes)
 
 second_fails : (x y : Bool) → (x && y) ≡ false → x ≡ true → y ≡ false
 second_fails true y is passes = is
@@ -70,7 +70,7 @@ module _ {V T : Type 0} where
   unfolding has_open_raise
   ends_in_raise call [] is = never is
   ends_in_raise call (e ∷ es) is =
-      elim (or_either (is_open_raise call e es) (some_entry (is_open_raise call) es) is) [
+      elim (or_cases (is_open_raise call e es) (some_entry (is_open_raise call) es) is) [
         | inl here ↦ (
             let parts = raise_of_open call e es here in
             let raise : e ≡ record { who = call; kind = Raise } = a_raise call e parts.0 parts.1 in

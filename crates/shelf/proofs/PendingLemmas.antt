@@ -1,9 +1,9 @@
 -- In a lawful history the pending call is the one whose Raise is open.
-use Rattle.std.proofs.Common.{◌≡◌, ◌∙◌, ◌⊎◌, inl, inr, ◌↔◌, Bool, true, false, ◌||◌, ◌&&◌, not, List, [], ◌∷◌, ◌++◌, Option, Some, None, refl, sym, ap, arith, cond, append_assoc, append-nil}
+use Rattle.std.proofs.Common.{◌≡◌, ◌∙◌, ◌⊎◌, inl, inr, ◌↔◌, Bool, true, false, ◌||◌, ◌&&◌, not, List, [], ◌∷◌, ◌++◌, Option, Some, None, refl, sym, ap, cond, append_assoc, append-nil}
 use Rattle.std.specs.List.{list_any}
 use Rattle.std.proofs.Math.Bool.{or-false}
-use Rattle.std.proofs.lemmas.Bool.Decides.{nat_tests}
 use Rattle.std.proofs.lemmas.List.Folds.{list_any-append}
+use Rattle.std.proofs.lemmas.Bool.{or_right, false_from_ne_true}
 use Rattle.store_traits.specs.declared.ids.CallId.{CallId}
 use Rattle.hist_journal.specs.declared.seen.EntrySeen.{EntrySeen}
 use Rattle.hist_journal.specs.Kinds.{is_call, is_raise, is_change, is_fault, is_death_of}
@@ -15,10 +15,8 @@ use Rattle.shelf.specs.Legal.{Fits, Legal}
 use Rattle.shelf.specs.Meanings.{Meanings}
 use Rattle.shelf.specs.OpenRaise.{spends, is_open_raise, has_open_raise}
 use Rattle.shelf.proofs.RaiseLemmas.{open_is_pending}
-use Rattle.shelf.proofs.Bools.{never, or_second}
-
-itself : (call : CallId) → is_call call call ≡ true
-itself call = grind (arith, nat_tests)
+use Rattle.shelf.proofs.Bools.{never}
+use Rattle.shelf.proofs.StepLemmas.{itself}
 
 open_more : (own spent before p raises : Bool) → ((own && not (spent || p)) || ((before && not p) || raises)) ≡ ((((own && not spent) || before) && not p) || raises)
 open_more false spent before p raises = refl
@@ -27,10 +25,6 @@ open_more true false true true raises = refl
 open_more true false false true raises = refl
 open_more true false true false raises = refl
 open_more true false false false raises = refl
-
-not_so : (b : Bool) → (b ≡ true → ⊥) → b ≡ false
-not_so false refuted = refl
-not_so true refuted = absurd (refuted refl)
 
 -- which of two was chosen
 chosen : {X : Type 0} (b : Bool) (x y z : X) → cond b x y ≡ z → ((b ≡ true) × (x ≡ z)) ⊎ ((b ≡ false) × (y ≡ z))
@@ -48,13 +42,14 @@ change_ends true true faults dies own changes unended = never (sym unended)
 change_ends false changed faults dies own changes unended = never own
 change_ends true false faults dies own changes unended = never changes
 
-kept_open : (is_ended : CallId → Bool) (d call : CallId) (b : Bool) → is_ended d ≡ b → cond b None (Some d) ≡ Some call → (Some d ≡ Some call) × (is_ended call ≡ false)
-kept_open is_ended d call true ended is = absurd (cc)
-kept_open is_ended d call false ended is = let same : d ≡ call = cc in (is, ap is_ended (sym same) ∙ ended)
-
-still_open : (is_ended : CallId → Bool) (p : Option CallId) (call : CallId) → still_pending is_ended p ≡ Some call → (p ≡ Some call) × (is_ended call ≡ false)
-still_open is_ended None call is = absurd (cc)
-still_open is_ended (Some d) call is = kept_open is_ended d call (is_ended d) refl is
+-- what is pending still was pending, and has not ended
+pub still_open : (is_ended : CallId → Bool) (p : Option CallId) (call : CallId) → still_pending is_ended p ≡ Some call → (p ≡ Some call) × (is_ended call ≡ false)
+still_open is_ended None call is = absurd cc
+still_open is_ended (Some open_call) call is = kept_open (is_ended open_call) refl is
+  where
+    kept_open : (b : Bool) → is_ended open_call ≡ b → cond b None (Some open_call) ≡ Some call → (Some open_call ≡ Some call) × (is_ended call ≡ false)
+    kept_open true ended is = absurd cc
+    kept_open false ended is = let same : open_call ≡ call = cc in (is, ap is_ended (sym same) ∙ ended)
 
 module _ {V T : Type 0} where
   pub has_open_raise-push : (call : CallId) (list : List (EntrySeen V T)) (e : EntrySeen V T)
@@ -81,7 +76,7 @@ module _ {V T M : Type 0} (m : Meanings V T) (s : Store V M) where
   raise_is_open before e call raises is =
       let who : e.who ≡ call = cc in
       let own : is_own is_raise call e ≡ true = rw (who, itself call) raises in
-      has_open_raise-push call before e ∙ or_second (has_open_raise call before && not (spends call e)) (is_own is_raise call e) own
+      has_open_raise-push call before e ∙ or_right (has_open_raise call before && not (spends call e)) (is_own is_raise call e) own
 
   stays_open : (before : List (EntrySeen V T)) (e : EntrySeen V T) (call : CallId) → Fits m s before e → IsOpen before → is_raise e.kind ≡ false
       → still_pending (λ c. ends c e) (pending before) ≡ Some call → has_open_raise call (before ++ e ∷ []) ≡ true
@@ -89,7 +84,7 @@ module _ {V T M : Type 0} (m : Meanings V T) (s : Store V M) where
       let kept : (pending before ≡ Some call) × (ends call e ≡ false) = still_open (λ c. ends c e) (pending before) call is in
       let was : pending before ≡ Some call = kept.0 in
       let no_change : is_change e.kind ≡ false =
-      not_so (is_change e.kind)
+      false_from_ne_true (is_change e.kind)
       (λ change.
       let own : pending before ≡ Some e.who = change_is_pending before e fits change in
       let who : e.who ≡ call = cc in

@@ -1,5 +1,6 @@
 -- Which call is pending whatever others add meanwhile.
 use Rattle.std.proofs.Common.{◌≡◌, ◌∙◌, Bool, true, false, ◌||◌, ◌&&◌, not, List, [], ◌∷◌, ◌++◌, Option, Some, None, cond, refl, sym}
+use Rattle.std.proofs.lemmas.Bool.{or_right}
 use Rattle.std.specs.List.{list_any}
 use Rattle.store_traits.specs.declared.ids.CallId.{CallId}
 use Rattle.hist_journal.specs.declared.seen.EntrySeen.{EntrySeen}
@@ -8,7 +9,7 @@ use Rattle.hist_journal.specs.Quiet.{ends, has_raise, pending, still_pending}
 use Rattle.hist_journal.proofs.QuietLemmas.{pending-push}
 use Rattle.shelf.specs.Entries.{is_own}
 use Rattle.shelf.specs.Meanwhile.{NoDeathOf, NoneOf, are_outer}
-use Rattle.shelf.proofs.Bools.{never, or_second}
+use Rattle.shelf.proofs.Bools.{never}
 use Rattle.shelf.proofs.MeanwhileLemmas.{carried, other_parts, outer_is_neither, outer_parts, spared_parts}
 use Rattle.shelf.proofs.StepLemmas.{itself}
 
@@ -32,7 +33,7 @@ was_pending false who call is_ended (Some d) other is = unless (is_ended d) (Som
 -- the pending call is that of a Raise
 raised_here : (behind raises is_open raised : Bool) (who call : CallId) (p : Option CallId) → (p ≡ Some call → raised ≡ true)
     → cond behind p (cond (raises && is_open) (Some who) None) ≡ Some call → ((is_call call who && raises) || raised) ≡ true
-raised_here true raises is_open raised who call p rest is = or_second (is_call call who && raises) raised (rest is)
+raised_here true raises is_open raised who call p rest is = or_right (is_call call who && raises) raised (rest is)
 raised_here false true true raised who call p rest is = let same : who ≡ call = cc in rw (same, itself call) refl
 raised_here false true false raised who call p rest is = absurd (cc)
 raised_here false false is_open raised who call p rest is = absurd (cc)

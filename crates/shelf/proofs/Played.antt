@@ -1,7 +1,7 @@
 -- A run of the small store that is written down is shown to follow the table by computing it.
-use Rattle.std.proofs.Common.{◌≡◌, ◌≢◌, inl, inr, ◌≤◌, ℕ, ◌+◌, ◌==◌, nat_lt, nat_le, Bool, true, false, ◌&&◌, not, List, [], ◌∷◌, ◌++◌, Option, Some, None, refl, arith, length, slice_get, slice_set, if◌then◌else◌, Result, Ok, Err}
+use Rattle.std.proofs.Common.{◌≡◌, inl, inr, ◌≤◌, ℕ, ◌+◌, ◌==◌, nat_lt, nat_le, Bool, true, false, ◌&&◌, not, List, [], ◌∷◌, ◌++◌, Option, Some, None, refl, arith, length, slice_get, slice_set, if◌then◌else◌, Result, Ok, Err}
 use Rattle.std.proofs.lemmas.Bool.Decides.{nat_tests}
-use Rattle.std.proofs.lemmas.Bool.{eqb-true, eq-eqb}
+use Rattle.std.proofs.lemmas.Bool.{eqb-true, and_parts, not-true, eqb-false}
 use Rattle.store_traits.specs.declared.applied.Applied.{Applied}
 use Rattle.store_traits.specs.declared.applied.Applied.TheVariants.{Changed, Refused}
 use Rattle.store_traits.specs.declared.ids.CallId.{CallId}
@@ -33,7 +33,7 @@ use Rattle.shelf.specs.Runs.{Did, Scene, Goes, Run}
 use Rattle.shelf.specs.Turn.{Row, TurnBy, begin, step_of, has_died_by, dies_now}
 use Rattle.shelf.specs.World.{World, Turned, weight_at}
 use Rattle.shelf.specs.WriteRows.{filling, piece_written}
-use Rattle.shelf.proofs.Bools.{both_parts, never, not_true}
+use Rattle.shelf.proofs.Bools.{never}
 use Rattle.shelf.proofs.StepLemmas.{itself}
 
 -- another call owns the lock
@@ -43,7 +43,7 @@ is_other (Some owner) call = not (is_call owner call)
 
 other_so : (owner : Option CallId) (call : CallId) → is_other owner call ≡ true → IsAnother owner call
 other_so None call is = never is
-other_so (Some owner) call is = λ same. never (let own : is_call owner call ≡ true = rw same (itself call) in let no = not_true (is_call owner call) is in cc)
+other_so (Some owner) call is = λ same. never (let own : is_call owner call ≡ true = rw same (itself call) in let no = not-true (is_call owner call) is in cc)
 
 -- nobody owns the lock
 abbrev is_nobody : Option CallId → Bool
@@ -192,9 +192,6 @@ place_so : (last : Option ℕ) (place : ℕ) → is_place last place ≡ true �
 place_so None place is = never is
 place_so (Some last) place is = let same : last ≡ place = eqb-true last place is in rw same refl
 
-other_numbers : (new old : ℕ) → (new == old) ≡ false → new ≢ old
-other_numbers new old is same = never (let equal : (new == old) ≡ true = eq-eqb new old same in cc)
-
 module _ (s : Store ℕ (Unit {0})) (none : s.migrations ≡ []) where
   module _ (w : World ℕ ExampleEdit) (c : Call ℕ ExampleEdit) where
     -- the turn of U2 where the two numbers are the same, or are not
@@ -219,7 +216,7 @@ module _ (s : Store ℕ (Unit {0})) (none : s.migrations ≡ []) where
     applied_so edit false is changed fits =
         let makes : after edit (old_number s w c) ≡ Changed (new_value s w c edit) = changed_to (old_number s w c) (after edit (old_number s w c)) changed in
         inl (record {
-          change = record { old = old_number s w c; new = new_value s w c edit; held = refl; makes = makes; differs = other_numbers (new_value s w c edit) (old_number s w c) is };
+          change = record { old = old_number s w c; new = new_value s w c edit; held = refl; makes = makes; differs = eqb-false (new_value s w c edit) (old_number s w c) is };
           fits = fits;
           goes_on = record { folder = λ is_told. refl; faults = omega arith; world = refl; call = refl };
         })
@@ -227,8 +224,8 @@ module _ (s : Store ℕ (Unit {0})) (none : s.migrations ≡ []) where
     row_so : (at : At ℕ ExampleEdit) (gave : Progress (Result ℕ UpdateError)) → is_fine s w c at gave ≡ true → Row rules s at (turned s w c at gave) gave
     row_so (First edit) Blocked is = record { owned = other_so w.owner c.id is; world = refl; call = refl }
     row_so (First edit) Moved is =
-        let parts = both_parts (is_nobody w.owner) (is_open s w c) is in
-        let bounds = both_parts (nat_lt (length w.history) s.limits.history.entries) (nat_lt (weight_at rules w.history) s.limits.history.weight) parts.1 in
+        let parts = and_parts (is_nobody w.owner) (is_open s w c) is in
+        let bounds = and_parts (nat_lt (length w.history) s.limits.history.entries) (nat_lt (weight_at rules w.history) s.limits.history.weight) parts.1 in
         let fewer : nat_lt (length w.history) s.limits.history.entries ≡ true = bounds.0 in
         let lighter : nat_lt (weight_at rules w.history) s.limits.history.weight ≡ true = bounds.1 in
         record {
@@ -238,7 +235,7 @@ module _ (s : Store ℕ (Unit {0})) (none : s.migrations ≡ []) where
           call = refl;
         }
     row_so (ReadingFirst edit) Moved is =
-        let parts = both_parts (is_number w.folder.main) (nat_le 1 s.limits.file) is in
+        let parts = and_parts (is_number w.folder.main) (nat_le 1 s.limits.file) is in
         let limit : nat_le 1 s.limits.file ≡ true = parts.1 in
         record {
           value = old_number s w c;
@@ -248,8 +245,8 @@ module _ (s : Store ℕ (Unit {0})) (none : s.migrations ≡ []) where
     row_so (Migrating edit value) Moved is = (none, record { world = refl; call = refl })
     row_so (Finishing edit) Moved is = record { world = refl; call = refl }
     row_so (Reading edit) Moved is =
-        let parts = both_parts (is_number w.folder.main) (is_changed (after edit (old_number s w c)) && nat_le 1 s.limits.file) is in
-        let more = both_parts (is_changed (after edit (old_number s w c))) (nat_le 1 s.limits.file) parts.1 in
+        let parts = and_parts (is_number w.folder.main) (is_changed (after edit (old_number s w c)) && nat_le 1 s.limits.file) is in
+        let more = and_parts (is_changed (after edit (old_number s w c))) (nat_le 1 s.limits.file) parts.1 in
         let limit : nat_le 1 s.limits.file ≡ true = more.1 in
         let fits : 1 ≤ s.limits.file = grind (arith, nat_tests, limit) in
         record {
@@ -343,5 +340,5 @@ module _ (s : Store ℕ (Unit {0})) (none : s.migrations ≡ []) where
   unfolding Run
   Run-computed [] scene fine = refl
   Run-computed (did ∷ rest) scene fine =
-      let both = both_parts (may_go did scene) (all_fine rest (scene_then did scene)) fine in
+      let both = and_parts (may_go did scene) (all_fine rest (scene_then did scene)) fine in
       (scene_then did scene, goes_so did scene (slice_get scene.calls did.place) refl both.0, Run-computed rest (scene_then did scene) both.1)

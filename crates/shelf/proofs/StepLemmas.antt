@@ -1,15 +1,16 @@
 -- What all turns have in common.
 use Rattle.std.proofs.Common.{◌≡◌, ℕ, ◌==◌, Bool, true, false, List, Option, Some, None, IsTrue, refl, arith, sym, ap, ◌∙◌, if◌then◌else◌, Result, Ok, Err}
-use Rattle.std.proofs.lemmas.Bool.{eq-eqb}
+use Rattle.std.proofs.lemmas.Bool.{eq-eqb, eqb-true}
 use Rattle.std.proofs.lemmas.Bool.Decides.{nat_tests}
 use Rattle.store_traits.specs.declared.ids.CallId.{CallId}
+use Rattle.store_traits.specs.declared.ids.NodeId.{NodeId}
 use Rattle.store_traits.specs.declared.update_error.UpdateError.{UpdateError}
 use Rattle.store_traits.specs.declared.update_error.UpdateError.TheVariants.{HistoryFull, NoMemory}
 use Rattle.store_traits.specs.declared.update_error.UpdateError.TheVariants as error
 use Rattle.file_lock.specs.Owner.{IsAnother, freed_node}
 use Rattle.folder_disk.specs.Contents.{Contents}
 use Rattle.hist_journal.specs.declared.seen.KindSeen.{KindSeen}
-use Rattle.hist_journal.specs.Kinds.{is_call}
+use Rattle.hist_journal.specs.Kinds.{is_call, is_node}
 use Rattle.shelf.specs.declared.store.Store.{Store}
 use Rattle.shelf.specs.ApplyRow.{Applies}
 use Rattle.shelf.specs.Calls.{At, First, ReadingFirst, Migrating, Finishing, Reading, Raising, Creating, Appending, SyncingScratch, Renaming, SyncingFolder, Gone, ended, is_first, is_gone}
@@ -25,6 +26,24 @@ use Rattle.shelf.proofs.Bools.{never}
 pub itself : (call : CallId) → is_call call call ≡ true
 itself call = grind (arith, nat_tests)
 
+-- nodes and calls that are the same by their numbers
+abbrev numbered : ℕ → NodeId
+numbered n = record { 0 = n }
+
+pub same_node : (a b : NodeId) → is_node a b ≡ true → a ≡ b
+same_node a b is = let number : a.0 ≡ b.0 = eqb-true a.0 b.0 is in let same : numbered a.0 ≡ numbered b.0 = rw number refl in same
+
+abbrev named : ℕ → ℕ → ℕ → CallId
+named node client number = record { node = record { 0 = node }; client = record { 0 = client }; number = number }
+
+pub same_call : (a b : CallId) → is_call a b ≡ true → a ≡ b
+same_call a b is =
+    let node : a.node.0 ≡ b.node.0 = grind (arith, nat_tests, is) in
+    let client : a.client.0 ≡ b.client.0 = grind (arith, nat_tests, is) in
+    let number : a.number ≡ b.number = grind (arith, nat_tests, is) in
+    let same : named a.node.0 a.client.0 a.number ≡ named b.node.0 b.client.0 b.number = rw (node, client, number) refl in
+    same
+
 -- a call that is freed owns nothing
 freed_by : (own : Bool) (call owner : CallId) → is_call call owner ≡ own → (if own then None else Some owner) ≡ Some call → ⊥
 freed_by true call owner is same = absurd (let no : ◌≡◌ {A = Option CallId} None (Some call) = same in cc)
@@ -32,7 +51,7 @@ freed_by false call owner is same =
     let equal : owner ≡ call = (let both : ◌≡◌ {A = Option CallId} (Some owner) (Some call) = same in cc) in
     never (let own : is_call call owner ≡ true = rw equal (itself call) in cc)
 
-not_freed : (call : CallId) (owner : Option CallId) → freed call owner ≡ Some call → ⊥
+pub not_freed : (call : CallId) (owner : Option CallId) → freed call owner ≡ Some call → ⊥
 not_freed call None same = absurd (let no : ◌≡◌ {A = Option CallId} None (Some call) = same in cc)
 not_freed call (Some owner) same = freed_by (is_call call owner) call owner refl same
 
@@ -45,6 +64,10 @@ node_freed_by false call owner is same =
 node_freed : (call : CallId) (owner : Option CallId) → freed_node call.node owner ≡ Some call → ⊥
 node_freed call None same = absurd (let no : ◌≡◌ {A = Option CallId} None (Some call) = same in cc)
 node_freed call (Some owner) same = node_freed_by (owner.node.0 == call.node.0) call owner refl same
+
+pub first_goes_on : {V T : Type 0} (at : At V T) → is_first at ≡ true → is_gone at ≡ false
+first_goes_on (First edit) first = refl
+first_goes_on other first = never first
 
 module _ {V T M : Type 0} (r : Rules V T) (s : Store V M) where
   row_waits : (at : At V T) (t : Turned V T) → Row r s at t Blocked → (is_first at ≡ true) × Waits r s t
@@ -84,10 +107,6 @@ module _ {V T M : Type 0} (r : Rules V T) (s : Store V M) where
   first_waits : (at : At V T) (t : Turned V T) (gave : Progress (Result ℕ UpdateError)) → is_first at ≡ true → Row r s at t gave → IsAnother t.world.owner t.call.id → gave ≡ Blocked
   first_waits (First edit) t gave first it another = lock_waits edit t gave it another
   first_waits other t gave first it another = never first
-
-  first_goes_on : (at : At V T) → is_first at ≡ true → is_gone at ≡ false
-  first_goes_on (First edit) first = refl
-  first_goes_on other first = never first
 
   -- where no death ends it, a first turn waits if another owns the lock
   pub turn_has_to_wait : (t : Turned V T) (gave : Progress (Result ℕ UpdateError)) → Turn r s t gave → has_died_by (begin t) ≡ false → dies_now (begin t) ≡ false

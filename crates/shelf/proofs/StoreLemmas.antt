@@ -11,7 +11,8 @@ use Rattle.hist_journal.specs.declared.seen.KindSeen.TheVariants.{Raise, Edit, S
 use Rattle.shelf.specs.declared.store.Store.{Store}
 use Rattle.store_traits.specs.declared.read_error.ReadError.{ReadError}
 use Rattle.store_traits.specs.declared.read_error.ReadError.TheVariants as read
-use Rattle.shelf.specs.Causes.{HasCause, HasReadCause, IsFull, IsPastLimit, IsRefused, IsSince, IsTooLong, IsUncertainSame, IsUnreadable, ReplacesTooLong}
+use Rattle.shelf.specs.Causes.{HasCause, HasReadCause, IsRefused, IsSince, IsTooLong, IsUncertainSame, IsUnreadable, ReplacesTooLong}
+use Rattle.shelf.specs.PastBounds.{IsFull, IsPastLimit}
 use Rattle.shelf.specs.Places.{HasFront}
 use Rattle.shelf.specs.World.{Rules}
 use Rattle.shelf.specs.FaultCounts.{IsNewCount, RaisesCount, count_at_start}

@@ -1,5 +1,5 @@
 -- U2: what becomes of the value that was read.
-use Rattle.std.specs.Prelude.{◌≡◌, ◌⊎◌, ◌<◌, ◌≤◌, ◌-◌, ◌^◌, ℕ, [], length, min, Result, Err}
+use Rattle.std.specs.Prelude.{◌≡◌, ◌⊎◌, ◌≤◌, ℕ, [], length, Result, Err}
 use Rattle.store_traits.specs.declared.applied.Applied.TheVariants.{Refused}
 use Rattle.store_traits.specs.declared.update_error.UpdateError.{UpdateError}
 use Rattle.store_traits.specs.declared.update_error.UpdateError.TheVariants as error
@@ -10,6 +10,7 @@ use Rattle.shelf.specs.declared.store.Store.{Store}
 use Rattle.shelf.specs.Calls.{Kept, Plan, Raising, SyncingFolder}
 use Rattle.shelf.specs.Changes.{ChangesValue, KeepsValue}
 use Rattle.shelf.specs.Effects.{Does, Keeps, StopsReading}
+use Rattle.shelf.specs.PastBounds.{IsPastLimit}
 use Rattle.shelf.specs.declared.progress.Progress.{Progress}
 use Rattle.shelf.specs.declared.progress.Progress.TheVariants.{Moved, Ended}
 use Rattle.shelf.specs.World.{Rules, Turned}
@@ -29,11 +30,10 @@ module _ {V T M : Type 0} (r : Rules V T) (s : Store V M) (t : Turned V T) (edit
     pub fits : length (r.encoded change.new) ≤ s.limits.file
     pub goes_on : Does t Keeps [] (Raising (new_plan change.new))
 
-  -- that value is past the limit; a length that passes 2^64 - 1 is told as that
+  -- that value is past the limit
   pub record IsTooLong (value : V) (len : ℕ) : Type 0 where
     pub change : Changes value
-    pub is : len ≡ min (length (r.encoded change.new)) (2 ^ 64 - 1)
-    pub past : s.limits.file < len
+    pub long : IsPastLimit r s change.new len
 
   -- the transform makes the same value of it
   pub record WritesNothing (value : V) : Type 0 where

@@ -1,5 +1,5 @@
 -- Why a call is answered by an error: what the history of its session shows then.
-use Rattle.std.specs.Prelude.{◌≡◌, ◌⊎◌, ◌<◌, ◌≤◌, ◌+◌, ◌-◌, ◌^◌, ℕ, min, Bool, false, ◌&&◌, not, List, length, Some, None}
+use Rattle.std.specs.Prelude.{◌≡◌, ◌⊎◌, ◌≤◌, ◌+◌, ℕ, Bool, false, ◌&&◌, not, List, length, Some, None}
 use Rattle.std.specs.List.{list_any}
 use Rattle.store_traits.specs.declared.applied.Applied.TheVariants.{Changed, Refused}
 use Rattle.store_traits.specs.declared.ids.CallId.{CallId}
@@ -17,8 +17,9 @@ use Rattle.shelf.specs.Changes.{KeepsValue}
 use Rattle.shelf.specs.Entries.{is_own, is_update, some_entry}
 use Rattle.shelf.specs.Images.{is_synced}
 use Rattle.shelf.specs.Legal.{value_at}
+use Rattle.shelf.specs.PastBounds.{IsFull, IsPastLimit}
 use Rattle.shelf.specs.Places.{Follows, HasFront, StandsAt, is_fault_of, is_up_to}
-use Rattle.shelf.specs.World.{Rules, weight_at}
+use Rattle.shelf.specs.World.{Rules}
 
 module _ {V T : Type 0} (call : CallId) where
   -- a value change of the call that has no Synced of it behind it
@@ -54,25 +55,20 @@ module _ {V T M : Type 0} (r : Rules V T) (s : Store V M) where
     pub unreadable : s.base ≡ Corrupt
     pub unreplaced : s.handler ≡ None
 
-  -- the length of the value's text, at most 2^64 - 1, passes the limit
-  pub record IsPastLimit (v : V) (len : ℕ) : Type 0 where
-    pub is : len ≡ min (length (r.encoded v)) (2 ^ 64 - 1)
-    pub past : s.limits.file < len
-
   -- what the transform makes of the value is too long
   pub record MakesTooLong (edit : T) (len : ℕ) (front : List (EntrySeen V T)) : Type 0 where
     pub old : V
     pub new : V
     pub held : value_at r.meanings s front ≡ Held old
     pub makes : r.meanings.after edit old ≡ Changed new
-    pub long : IsPastLimit new len
+    pub long : IsPastLimit r s new len
 
   -- what takes the place of an unreadable file is too long
   pub record ReplacesTooLong (len : ℕ) : Type 0 where
     pub unreadable : s.base ≡ Corrupt
     pub new : V
     pub given : s.handler ≡ Some new
-    pub long : IsPastLimit new len
+    pub long : IsPastLimit r s new len
 
   -- this holds of a prefix that has all that was shown to the client
   pub record IsSince (shown : ℕ) (Holds : List (EntrySeen V T) → Type 0) (front : List (EntrySeen V T)) : Type 0 where
@@ -82,12 +78,6 @@ module _ {V T M : Type 0} (r : Rules V T) (s : Store V M) where
   -- what migrations make joins these, once there are some
   abbrev pub IsTooLong : T → ℕ → List (EntrySeen V T) → Type 0
   IsTooLong edit len front = MakesTooLong edit len front ⊎ ReplacesTooLong len
-
-  -- the history has these numbers, and one has reached its bound
-  pub record IsFull (entries weight : ℕ) (front : List (EntrySeen V T)) : Type 0 where
-    pub entries_then : entries ≡ length front
-    pub weight_then : weight ≡ weight_at r front
-    pub bound : (s.limits.history.entries ≤ entries) ⊎ (s.limits.history.weight ≤ weight)
 
   -- the folder failed in an update that makes the same value of the one before
   pub record IsUncertainSame (call : CallId) (edit : T) (place : ℕ) (list : List (EntrySeen V T)) : Type 0 where
@@ -100,7 +90,7 @@ module _ {V T M : Type 0} (r : Rules V T) (s : Store V M) where
   HasCause shown call edit error.Corrupt = λ list. IsUnreadable
   HasCause shown call edit (error.FileTooLong len) = λ list. s.base ≡ TooLong len
   HasCause shown call edit (error.ValueTooLong len) = HasFront (IsSince shown (IsTooLong edit len))
-  HasCause shown call edit (error.HistoryFull entries weight) = HasFront (IsFull entries weight)
+  HasCause shown call edit (error.HistoryFull entries weight) = HasFront (IsFull r s entries weight)
   HasCause shown call edit (error.StorageFault at) = IsFaulted call at
   HasCause shown call edit (error.NotDurable at) = λ list. IsUncertain call at list ⊎ IsUncertainSame call edit at list
   HasCause shown call edit (error.LegacyFault at) = StandsAt (is_own (is_fault_of Legacy) call) at
@@ -112,7 +102,7 @@ module _ {V T M : Type 0} (r : Rules V T) (s : Store V M) where
   HasReadCause shown call read.Corrupt = λ list. IsUnreadable
   HasReadCause shown call (read.FileTooLong len) = λ list. s.base ≡ TooLong len
   HasReadCause shown call (read.ValueTooLong len) = HasFront (IsSince shown (λ front. ReplacesTooLong len))
-  HasReadCause shown call (read.HistoryFull entries weight) = HasFront (IsFull entries weight)
+  HasReadCause shown call (read.HistoryFull entries weight) = HasFront (IsFull r s entries weight)
   HasReadCause shown call (read.StorageFault at) = IsFaulted call at
   HasReadCause shown call (read.NotDurable at) = IsUncertain call at
   HasReadCause shown call (read.LegacyFault at) = StandsAt (is_own (is_fault_of Legacy) call) at

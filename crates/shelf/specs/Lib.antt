@@ -28,6 +28,7 @@ pub mod NodeStates
 pub mod OldSettings
 pub mod OpenRaise
 pub mod Opening
+pub mod PastBounds
 pub mod Places
 pub mod Plans
 pub mod ReadRows

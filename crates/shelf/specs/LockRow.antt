@@ -1,11 +1,12 @@
 -- I1 and U1: the lock is taken.
-use Rattle.std.specs.Prelude.{◌≡◌, ◌⊎◌, ◌≤◌, ◌<◌, ℕ, Bool, length, Some, if◌then◌else◌, Result, Err}
+use Rattle.std.specs.Prelude.{◌≡◌, ◌<◌, ℕ, Bool, length, Some, if◌then◌else◌, Result, Err}
 use Rattle.store_traits.specs.declared.update_error.UpdateError.{UpdateError}
 use Rattle.store_traits.specs.declared.update_error.UpdateError.TheVariants.{HistoryFull, NoMemory}
 use Rattle.file_lock.specs.Owner.{IsAnother}
 use Rattle.shelf.specs.declared.store.Store.{Store}
 use Rattle.shelf.specs.Calls.{ReadingFirst, Reading}
 use Rattle.shelf.specs.Effects.{Stops, is_ready_now}
+use Rattle.shelf.specs.PastBounds.{IsFull}
 use Rattle.shelf.specs.declared.progress.Progress.{Progress}
 use Rattle.shelf.specs.declared.progress.Progress.TheVariants.{Moved, Blocked, Ended}
 use Rattle.shelf.specs.World.{Rules, Turned, weight_at}
@@ -18,12 +19,7 @@ module _ {V T M : Type 0} (r : Rules V T) (s : Store V M) (t : Turned V T) where
   abbrev pub IsFree : Type 0
   IsFree = IsAnother t.world.owner t.call.id → ⊥
 
-  -- the entries or the weight have reached their bound
-  pub record IsFull (entries weight : ℕ) : Type 0 where
-    pub entries_now : entries ≡ length t.world.history
-    pub weight_now : weight ≡ weight_at r t.world.history
-    pub bound : (s.limits.history.entries ≤ entries) ⊎ (s.limits.history.weight ≤ weight)
-
+  -- neither the entries nor the weight have reached their bound
   pub record IsOpen : Type 0 where
     pub entries : length t.world.history < s.limits.history.entries
     pub weight : weight_at r t.world.history < s.limits.history.weight
@@ -44,6 +40,6 @@ module _ {V T M : Type 0} (r : Rules V T) (s : Store V M) (t : Turned V T) where
   abbrev pub LockRow : T → Progress (Result ℕ UpdateError) → Type 0
   LockRow edit Blocked = Waits
   LockRow edit Moved = Takes edit
-  LockRow edit (Ended (Err (HistoryFull entries weight))) = IsFree × IsFull entries weight × Stops t
+  LockRow edit (Ended (Err (HistoryFull entries weight))) = IsFree × IsFull r s entries weight t.world.history × Stops t
   LockRow edit (Ended (Err NoMemory)) = IsFree × IsOpen × Stops t
   LockRow edit other = ⊥

@@ -1,5 +1,5 @@
 -- Plans: what is to be written, and which change it is for.
-use Rattle.std.specs.Prelude.{◌≡◌, ◌<◌, ◌-◌, ◌^◌, ℕ, min, List, [], ◌∷◌, ◌++◌, length}
+use Rattle.std.specs.Prelude.{◌≡◌, ℕ, List, [], ◌∷◌, ◌++◌, length}
 use Rattle.hist_journal.specs.declared.seen.BaseSeen.TheVariants.{Held}
 use Rattle.hist_journal.specs.declared.seen.EntrySeen.{EntrySeen}
 use Rattle.folder_disk.specs.Room.{Room, HasRoomFor}
@@ -8,6 +8,7 @@ use Rattle.shelf.specs.declared.answers.PlanMade.TheVariants.{Plan, TooLong, NoM
 use Rattle.shelf.specs.declared.store.Store.{Store}
 use Rattle.shelf.specs.Kept.{MayBeMain}
 use Rattle.shelf.specs.Legal.{value_at}
+use Rattle.shelf.specs.PastBounds.{IsPastLimit}
 use Rattle.shelf.specs.World.{Rules}
 
 module _ {V T M : Type 0} (r : Rules V T) (IsValue : V → Type 0) (s : Store V M) where
@@ -22,10 +23,10 @@ module _ {V T M : Type 0} (r : Rules V T) (IsValue : V → Type 0) (s : Store V 
     pub makes : value_at r.meanings s (list ++ e ∷ []) ≡ Held value
     pub writes : Writes value plan
 
-  -- a plan of the value; or the length of its text, at most 2^64 - 1, which passes the limit
+  -- a plan of the value; or the length of its text, which passes the limit
   abbrev pub PlanRow : V → PlanMade → Type 0
   PlanRow v (Plan plan) = Writes v plan
-  PlanRow v (TooLong len) = (len ≡ min (length (r.encoded v)) (2 ^ 64 - 1)) × (s.limits.file < len)
+  PlanRow v (TooLong len) = IsPastLimit r s v len
   PlanRow v NoMemory = Unit {0}
 
 -- the folder has memory for the plan

@@ -1,5 +1,5 @@
 -- What the calls of a single update may add.
-use Rattle.std.proofs.Common.{◌≡◌, ◌∙◌, true, List, [], ◌∷◌, ◌++◌, Some, None, ◌==◌, ◌≤◌, ℕ, zero, suc, length, take, drop, refl, sym, ap, subst, arith}
+use Rattle.std.proofs.Common.{◌≡◌, ◌∙◌, true, List, [], ◌∷◌, ◌++◌, Some, None, ◌≤◌, ℕ, zero, suc, length, take, drop, refl, sym, ap, subst, arith}
 use Rattle.store_traits.specs.declared.ids.CallId.{CallId}
 use Rattle.hist_journal.specs.declared.seen.BaseSeen.{BaseSeen}
 use Rattle.hist_journal.specs.declared.seen.EntrySeen.{EntrySeen}
@@ -11,7 +11,7 @@ use Rattle.shelf.specs.Meanings.{Meanings}
 use Rattle.shelf.specs.ShelfTurns.{FaultFits, FitInTurn}
 use Rattle.shelf.proofs.GoingOn.{GoesOn, GoesOn-empty, GoesOn-push, raise_fits, fault_fits}
 use Rattle.shelf.proofs.StepLemmas.{itself}
-use Rattle.std.proofs.lemmas.Bool.Decides.{nat_tests}
+use Rattle.std.proofs.lemmas.Bool.{eq-eqb}
 use Rattle.shelf.proofs.GoingOn.{edit_fits, same_fits, synced_fits, late_fault_fits, raise_opens}
 use Rattle.shelf.specs.Changes.{KeepsValue}
 use Rattle.shelf.specs.Legal.{value_at}
@@ -25,16 +25,13 @@ use Rattle.hist_journal.specs.Folds.{applied_or, edited, value_after, value_of}
 use Rattle.hist_journal.proofs.FoldLemmas.{value_of-other, value_of-push}
 use Rattle.store_tests.specs.SingleUpdate.{ChangesTo, Makes, changed, initialised, raised}
 
-itself_node : (n : ℕ) → (n == n) ≡ true
-itself_node n = grind (arith, nat_tests)
-
 ready_initialised : (V T : Type 0) (call : CallId) → is_ready {V = V} {T = T} call.node (initialised call) ≡ true
 unfolding is_ready last_mark
-ready_initialised V T call = rw (itself_node call.node.0) refl
+ready_initialised V T call = rw (eq-eqb call.node.0 call.node.0 refl) refl
 
 ready_raised : (V T : Type 0) (call : CallId) → is_ready {V = V} {T = T} call.node (raised call) ≡ true
 unfolding is_ready last_mark
-ready_raised V T call = rw (itself_node call.node.0) refl
+ready_raised V T call = rw (eq-eqb call.node.0 call.node.0 refl) refl
 
 changed_quiet : (V : Type 0) {T : Type 0} (call : CallId) (edit : T) → pending {V = V} {T = T} (changed call edit) ≡ None
 unfolding pending

@@ -1,4 +1,4 @@
-ghost use Rattle.std.specs.Prelude.{◌≡◌, IsTrue, string_bytes, [], OnOk};
+ghost use Rattle.std.specs.Prelude.{◌≡◌, ◌<◌, IsTrue, string_bytes, [], length, OnOk};
 ghost use Rattle.store_traits.specs.Faults.{Counts};
 ghost use Rattle.script_lang.specs.Gathering.{Gathers, is_write_fault};
 
@@ -11,6 +11,7 @@ const PIECE_LEN: usize = 4096;
 /// Writes what is gathered, if it is enough.
 pub(crate) fn write_full<K: Sink>(sink: &mut K, gathered: &mut String) -> Result<(), WriteTextError>
     ensures taken { IsTrue K.told → Gathers [] (K.held sink.old) (string_bytes gathered.old) result (K.held sink.new) (string_bytes gathered.new) }
+    ensures small { OnOk result (length (string_bytes gathered.new) < 4096) }
     ensures faults { Counts (is_write_fault result) (K.count sink.old) (K.count sink.new) }
 {
     if gathered.len() >= PIECE_LEN {

@@ -30,7 +30,7 @@ returns-in-HistoryFull-clause-row g c =
     let frees = stays_then_frees _ (shelf_seen c.args.shelf.now) (shelf_seen c.take.new.self) _ (ledger_seen c.args.shelf.now.ledger) (ledger_seen c.take.new.self.ledger) was is taken.row.2 taken.codec taken.store c.free.ensures.turn in
     rw c.requires.gone (
       taken.row.0,
-      full_row g.P.F.Folder _ c.args.self.now.origin c.args.edit (shelf_seen c.args.shelf.now) (shelf_seen c.free.new.self) (ledger_seen c.args.shelf.now.ledger) (ledger_seen c.take.new.self.ledger) was weighs _ _ _ taken.row.1,
+      full_row g.P.F.Folder _ c.args.self.now.origin c.args.edit (shelf_seen c.args.shelf.now) (shelf_seen c.free.new.self) (ledger_seen c.args.shelf.now.ledger) (ledger_seen c.take.new.self.ledger) was weighs _ _ taken.row.1,
       stops_row g.P.F.Folder c.args.self.now.origin _ _ _ frees (c.free.ensures.folder ∙ taken.folder),
     )
 
