@@ -132,16 +132,16 @@ module _ {V T M : Type 0} (r : Rules V T) (s : Store V M) (w : World V T) (c : C
       let full = it.1 in
       let bound : HasNone r s.limits w c =
       elim full.bound [
-        | inl most ↦ inl (subst (λ (n : ℕ). s.limits.history.entries ≤ n) full.entries_now most)
-        | inr most ↦ inr (subst (λ (n : ℕ). s.limits.history.weight ≤ n) full.weight_now most)
+        | inl most ↦ inl (subst (λ (n : ℕ). s.limits.history.entries ≤ n) full.entries_then most)
+        | inr most ↦ inr (subst (λ (n : ℕ). s.limits.history.weight ≤ n) full.weight_then most)
       ] in
       inr (
         is_free it.0,
         inr (
           bound,
           stops_comes w c (Err (error.HistoryFull entries weight)) it.2
-              ∙ (ap (λ (n : ℕ). ending w c (Err (error.HistoryFull n weight)) w.folder []) full.entries_now
-              ∙ ap (λ (n : ℕ). ending w c (Err (error.HistoryFull (length w.history) n)) w.folder []) full.weight_now),
+              ∙ (ap (λ (n : ℕ). ending w c (Err (error.HistoryFull n weight)) w.folder []) full.entries_then
+              ∙ ap (λ (n : ℕ). ending w c (Err (error.HistoryFull (length w.history) n)) w.folder []) full.weight_then),
         ),
       )
   lock_comes edit (Ended (Err error.NoMemory)) it memory = absurd (memory refl)
@@ -186,8 +186,8 @@ module _ {V T M : Type 0} (r : Rules V T) (s : Store V M) (w : World V T) (c : C
   applies_comes edit value (Ended (Err (error.ValueTooLong len))) it =
       let long = it.0 in
       let change = long.change in
-      let is = long.is in
-      let past = long.past in
+      let is = long.long.is in
+      let past = long.long.past in
       let differs : change.new ≢ value = λ is. change.differs (is ∙ held_is value change.old change.held) in
       let longer : s.limits.file < length (r.encoded change.new) = omega (arith, is, past) in
       let ends = read_ends w c told now next unfailed (Err (error.ValueTooLong len)) it.1 ∙ ap (λ (n : ℕ). ending w c (Err (error.ValueTooLong n)) w.folder []) is in
