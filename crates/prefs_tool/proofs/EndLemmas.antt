@@ -1,12 +1,10 @@
 -- How a command ends that writes a text last.
-use Rattle.std.proofs.Common.{◌≡◌, ◌++◌, ◌≤◌, inr, ℕ, Bool, true, false, IsTrue, Result, Ok, Err, List, [], refl, take, drop, sym}
-use Rattle.std.proofs.lemmas.List.{take-append-drop}
+use Rattle.std.proofs.Common.{◌≡◌, ◌++◌, ◌≤◌, inr, ℕ, Bool, true, false, IsTrue, Result, Ok, Err, List, [], refl}
 use Rattle.folder_disk.specs.Contents.{Contents}
 use Rattle.folder_disk.specs.Tally.{Tally}
 use Rattle.prefs_model.specs.declared.pref_pair.PrefPair.{PrefPair}
-use Rattle.script_lang.specs.Gathering.{GainsFront}
 use Rattle.prefs_tool.specs.Reading.{ReadsAs}
-use Rattle.prefs_tool.specs.Writing.{WritesText}
+use Rattle.prefs_tool.specs.Writing.{GainsFront, WritesText}
 use Rattle.prefs_tool.specs.Outcome.{Answers, shown}
 use Rattle.prefs_tool.specs.Ending.{Ends, EndsWith, Gains}
 use Rattle.command_words.specs.declared.command.Command.TheVariants.{Show}
@@ -24,7 +22,7 @@ module _ (answers : Result (Unit {0}) ToolError → List ℕ → Type 0) (text :
       → (front : List ℕ) × answers (Err NoMemory) front × Gains told front held faults gained faults_now
   front_ends true held gained faults faults_now fronts later gains =
       let front = gains refl in
-      (take front.0 text, fronts (take front.0 text) (drop front.0 text) (sym (take-append-drop front.0 text)), record { later = later; text_is = λ _. front.1 })
+      (front.front, fronts front.front front.rest front.parts, record { later = later; text_is = λ _. front.gained })
   front_ends false held gained faults faults_now fronts later gains = ([], fronts [] text refl, record { later = later; text_is = λ no. absurd cc })
 
   pub text_ends : {T : Type 0} (told : Bool) (held gained : List ℕ) (faults faults_now : ℕ) (result : Result T ToolError)

@@ -3,7 +3,6 @@ use Rattle.std.proofs.Common.{◌≢◌, ◌∙◌, ◌++◌, inl, inr, ℕ, Boo
 use Rattle.folder_disk.specs.Contents.{Contents}
 use Rattle.folder_disk.specs.Tally.{Tally}
 use Rattle.store_traits.proofs.FaultLemmas.{rose_since}
-use Rattle.script_lang.proofs.GatheringLemmas.{front_of_second}
 use Rattle.prefs_tool.specs.Status.{line_of}
 use Rattle.prefs_tool.specs.Outcome.{Answers, ReadsNoScript, Reports, Tells}
 use Rattle.prefs_tool.specs.Ending.{EndsWith, Gains}
@@ -14,6 +13,7 @@ use Rattle.prefs_tool.specs.declared.status.Status.TheVariants as status
 use Rattle.prefs_tool.specs.declared.tool_error.ToolError.{ToolError}
 use Rattle.prefs_tool.specs.declared.tool_error.ToolError.TheVariants.{WriteFault, NoMemory}
 use Rattle.prefs_tool.proofs.ChangeLemmas.{untouched}
+use Rattle.prefs_tool.proofs.WriteLemmas.{front_of_second}
 
 -- want of memory before anything was done
 pub no_memory : (told : Bool) (command : Command) (old : Contents) (tally : Tally) → ReadsNoScript command → Answers told command old tally (Err NoMemory) [] old tally

@@ -4,9 +4,9 @@ use Rattle.std.specs.declared.alloc.Global.{Global}
 use Rattle.store_traits.specs.Faults.{Rose}
 use Rattle.folder_disk.specs.Contents.{Contents}
 use Rattle.folder_disk.specs.Tally.{Tally}
-use Rattle.script_lang.specs.Gathering.{GainsFront}
 use Rattle.prefs_tool.specs.Reading.{StopsReading}
 use Rattle.prefs_tool.specs.Status.{line_of}
+use Rattle.prefs_tool.specs.Writing.{GainsFront}
 use Rattle.prefs_tool.specs.Outcome.{Answers, Lacks, Prints}
 use Rattle.command_words.specs.declared.command.Command.{Command}
 use Rattle.command_words.specs.declared.command.Command.TheVariants.{Get}

@@ -10,11 +10,10 @@ use Rattle.prefs_text.specs.ValueText.{value_text}
 use Rattle.prefs_text.specs.MapText.{pair_text}
 use Rattle.folder_disk.specs.Contents.{Contents}
 use Rattle.folder_disk.specs.Tally.{Tally}
-use Rattle.script_lang.specs.Gathering.{GainsFront}
-use Rattle.script_lang.specs.TranscriptText.{line}
 use Rattle.prefs_tool.specs.Reading.{ReadsAs, StopsReading}
 use Rattle.prefs_tool.specs.Changing.{Untouched, ChangesMain}
-use Rattle.prefs_tool.specs.Status.{line_of, text_after, status_after}
+use Rattle.prefs_tool.specs.Status.{line, line_of, text_after, status_after}
+use Rattle.prefs_tool.specs.Writing.{GainsFront}
 use Rattle.command_words.specs.declared.command.Command.{Command}
 use Rattle.command_words.specs.declared.command.Command.TheVariants.{Set, Get, Remove, Show, Replay}
 use Rattle.prefs_tool.specs.declared.status.Status.{Status}

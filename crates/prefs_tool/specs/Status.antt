@@ -1,6 +1,5 @@
 -- How a command ended, as a number, and the line that tells why it stopped.
-use Rattle.std.specs.Prelude.{ℕ, List, [], ◌++◌, codes, decimal, Result, Ok, Err}
-pub use Rattle.script_lang.specs.TranscriptText.{line}
+use Rattle.std.specs.Prelude.{ℕ, List, [], ◌∷◌, ◌++◌, codes, decimal, Result, Ok, Err}
 use Rattle.prefs_tool.specs.declared.status.Status.{Status}
 use Rattle.prefs_tool.specs.declared.status.Status.TheVariants.{Done, Words, Script, Storage, Corrupt, Refused, ReadFault, WriteFault, NoMemory, NoKey}
 use Rattle.prefs_tool.specs.declared.tool_error.ToolError.{ToolError}
@@ -38,6 +37,9 @@ status_of error.NoKey = NoKey
 abbrev pub status_after : {T : Type 0} → Result T ToolError → Status
 status_after (Ok done) = Done
 status_after (Err e) = status_of e
+
+abbrev pub line : List ℕ → List ℕ
+line text = text ++ 10 ∷ []
 
 -- the word for a fault of a script; the last one is never told
 abbrev pub fault_name : ScriptFault → List ℕ

@@ -1,9 +1,15 @@
 -- What is written to the sink.
 use Rattle.std.specs.Prelude.{ℕ, ◌≡◌, ◌≤◌, ◌++◌, Bool, IsTrue, List, Result, Ok, Err}
 use Rattle.store_traits.specs.Faults.{Rose}
-use Rattle.script_lang.specs.Gathering.{GainsFront}
 use Rattle.prefs_tool.specs.declared.tool_error.ToolError.{ToolError}
 use Rattle.prefs_tool.specs.declared.tool_error.ToolError.TheVariants.{WriteFault, NoMemory}
+
+-- the sink gained a front of the text
+pub record GainsFront (text old new : List ℕ) : Type 0 where
+  pub front : List ℕ
+  pub rest : List ℕ
+  pub parts : text ≡ front ++ rest
+  pub gained : new ≡ old ++ front
 
 -- The sink gained the text, or a front of it where a write failed. Where it is not told, of what it holds nothing is said.
 abbrev pub WritesPiece : {T : Type 0} → Bool → List ℕ → List ℕ → ℕ → Result T ToolError → List ℕ → ℕ → Type 0
