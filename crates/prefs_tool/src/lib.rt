@@ -15,8 +15,6 @@ mod replace;
 mod replay;
 mod show;
 mod status;
-#[cfg(test)]
-mod tests;
 mod tool;
 mod tool_error;
 mod write;
