@@ -1,5 +1,5 @@
 //! The lock as its callers see it, and that it may cross threads.
-use crate::LockTable;
+use file_lock::LockTable;
 use store_traits::{CallId, ClientId, NodeId};
 
 fn call(node: u32, client: u32, number: u32) -> CallId {
