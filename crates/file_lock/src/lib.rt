@@ -4,7 +4,5 @@
 #![tactic(auto)]
 
 mod lock_table;
-#[cfg(test)]
-mod tests;
 
 pub use lock_table::LockTable;

@@ -16,8 +16,6 @@ mod pref_name;
 mod reserve_error;
 mod sections;
 mod seen;
-#[cfg(test)]
-mod tests;
 
 pub use base::Base;
 pub use bounds::Bounds;

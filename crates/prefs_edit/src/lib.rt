@@ -13,8 +13,6 @@ mod kinds;
 mod require;
 mod set;
 mod stop;
-#[cfg(test)]
-mod tests;
 mod texts;
 mod toggle;
 mod weight;

@@ -15,8 +15,6 @@ mod pref_text;
 mod pref_value;
 mod set_laws;
 mod sorted_vec;
-#[cfg(test)]
-mod tests;
 mod text_set;
 
 pub use entries::Entries;

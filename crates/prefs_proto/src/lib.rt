@@ -25,6 +25,3 @@ mod value;
 pub use decode_error::DecodeError;
 pub use laws::{map_is_read, one_map_read, one_refusal, written_is_read};
 pub use prefs_codec::PrefsCodec;
-
-#[cfg(test)]
-mod tests;

@@ -21,8 +21,6 @@ mod quoted;
 mod read;
 mod scalars;
 mod seen;
-#[cfg(test)]
-mod tests;
 mod value_kind;
 mod value_text_error;
 mod values;

@@ -13,8 +13,6 @@ mod place;
 mod rows;
 mod step;
 mod step_kind;
-#[cfg(test)]
-mod tests;
 mod texts;
 mod unknown;
 mod words_error;

@@ -29,6 +29,3 @@ pub use reader::WireReader;
 pub use varint::{put_varint, varint_len};
 pub use wire_error::WireError;
 pub use writer::WireWriter;
-
-#[cfg(test)]
-mod tests;

@@ -1,2 +1,0 @@
-//! Lines of words, and what they ask for.
-mod words;
