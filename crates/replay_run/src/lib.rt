@@ -12,8 +12,6 @@ mod prefs_parts;
 mod replaying;
 mod run_examples;
 mod stage;
-#[cfg(test)]
-mod tests;
 
 pub use laws::{runs_are_good, runs_start_as_sessions_begin, scripts_have_one_run};
 pub use prefs_parts::PrefsParts;
