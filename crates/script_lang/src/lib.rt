@@ -25,8 +25,6 @@ mod session_list;
 mod session_plan;
 mod start;
 mod start_rows;
-#[cfg(test)]
-mod tests;
 mod transcript;
 mod truth_examples;
 mod write_text_error;

@@ -8,8 +8,6 @@ mod gathered;
 mod lines;
 mod lists;
 mod sessions;
-#[cfg(test)]
-mod tests;
 
 use crate::{Transcript, WriteTextError};
 use byte_io::Sink;

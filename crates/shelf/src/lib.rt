@@ -18,11 +18,7 @@ mod shelf;
 mod shelf_parts;
 mod step_examples;
 mod step_laws;
-#[cfg(test)]
-mod step_tests;
 mod store;
-#[cfg(test)]
-mod tests;
 
 pub use answer_laws::{causes_by_the_start, causes_stay, updates_stay};
 pub use answers::{AddNodeError, Loaded, PlanMade, Taken, Want};

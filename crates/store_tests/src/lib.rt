@@ -1,17 +1,21 @@
-//! What spans several crates of the store, at the types of the program and over a folder in memory. It stands on all that
-//! it tests. An update is taken turn by turn here, which shows that what each turn asks for can be met.
+//! What spans several crates of the store. An update is taken turn by turn here, which shows that what each turn asks for
+//! can be met, for every parts of a store; and the tests do so at the types of the program, over a folder in memory. It
+//! stands on all that it tests. All of it is read as tests are, so that it is proved once.
 #![tactic(auto)]
 
+#[cfg(test)]
 mod alone;
+#[cfg(test)]
 mod going;
+#[cfg(test)]
 mod in_turn;
+#[cfg(test)]
+mod sessions;
+#[cfg(test)]
+mod shelf_laws;
+#[cfg(test)]
 mod single_update;
 #[cfg(test)]
 mod step_tests;
 #[cfg(test)]
 mod tests;
-
-pub use alone::{one_after_another, to_its_end};
-pub use going::Going;
-pub use in_turn::{begin_both, in_rounds, step_of, step_of_other, steps_of};
-pub use single_update::{hold, initialise, keep, write};

@@ -1,305 +1,165 @@
 //! Updates step by step, as the calls of a script, at the types of the program and over a folder in memory.
-ghost use Rattle.std.specs.Prelude.{◌≡◌, IfOk, IsTrue, true};
-ghost use Rattle.hist_journal.specs.View.{base_seen};
+ghost use Rattle.std.specs.Prelude.{◌≡◌, true};
 ghost use Rattle.shelf.specs.AddsNode.{is_among};
-ghost use Rattle.shelf.specs.Base.{ReadsAs};
 ghost use Rattle.shelf.specs.ShelfSeen.{shelf_seen};
 ghost use Rattle.store_tests.specs.SingleUpdate.{IsFresh};
 
-use crate::{begin_both, in_rounds, one_after_another, step_of_other, steps_of, to_its_end};
-use folder_disk::{FolderCall, MainRead, MemFolder, Planned};
-use hist_journal::{Base, Bounds, Kind};
-use prefs_edit::{Edit, EditStep};
-use prefs_model::{PrefKey, PrefMap, PrefValue};
-use prefs_proto::PrefsCodec;
-use replay_run::PrefsParts;
-use shelf::{Parts, Setup, Shelf, ValueOf};
-use std::alloc::Global;
-use std::sync::Arc;
-use std::test::Fail;
-use store_traits::{CallId, ClientId, Codec, Decoded, FileBytes, NodeId, PlainWord, UpdateError};
+use crate::alone::{one_after_another, to_its_end};
+use crate::in_turn::{begin_both, in_rounds, step_of_other, steps_of};
+use crate::sessions::{A, A_NEXT, B, Prefs, add, main_is, set, tells, with_file, without_file};
+use folder_disk::{FolderCall, Planned};
+use prefs_edit::Edit;
+use shelf::{Parts, Shelf};
+use std::alloc::{AllocError, Global};
+use store_traits::{PlainWord, UpdateError};
 
-type Prefs = PrefsParts<MemFolder>;
-
-/// The calls of two clients, each on a node of its own.
-const A: CallId = CallId {
-    node: NodeId(0),
-    client: ClientId(0),
-    number: 1,
-};
-
-/// The call of the first client behind that.
-const A_NEXT: CallId = CallId {
-    node: NodeId(0),
-    client: ClientId(0),
-    number: 2,
-};
-
-const B: CallId = CallId {
-    node: NodeId(1),
-    client: ClientId(1),
-    number: 1,
-};
-
-/// What an entry says, without what it says it of.
-#[derive(Clone, Copy, PartialEq, Eq)]
-enum Told {
-    Raise,
-    Edit,
-    Same,
-    Synced,
-    Inited,
-    Fault,
-    Other,
-}
-
-fn kind_told(kind: &Kind<PrefMap, Edit>) -> Told {
-    match kind {
-        Kind::Raise => Told::Raise,
-        Kind::Edit(_) => Told::Edit,
-        Kind::Same(_) => Told::Same,
-        Kind::Synced => Told::Synced,
-        Kind::Inited(_) => Told::Inited,
-        Kind::Fault(_, _) => Told::Fault,
-        _ => Told::Other,
-    }
-}
-
-/// Whether these are the entries, one behind another.
-fn tells(shelf: &Shelf<Prefs>, rows: &[(CallId, Told)]) -> bool {
-    let journal = shelf.journal();
-    if journal.len() != rows.len() as u64 {
-        return false;
-    }
-    for index in 0..rows.len() {
-        let (who, kind) = rows[index];
-        let is = journal
-            .entry(index as u64 + 1)
-            .is_some_and(|entry| entry.who == who && kind_told(&entry.kind) == kind);
-        if !is {
-            return false;
-        }
-    }
-    true
-}
-
-/// Whether main has these bytes.
-fn main_is(shelf: Shelf<Prefs>, bytes: &[u8]) -> bool {
-    let folder = shelf.into_parts().folder;
-    folder.main().is_some_and(|main| main == bytes)
-}
-
-/// A session of two nodes, over a folder whose main reads as this base.
-fn session<P: Parts>(
+/// An update goes to its end, and has this answer.
+#[tactic(auto, unfolding(hist_journal::specs::Folds::raises_of))]
+fn is_answered<P: Parts>(
     alloc: Global,
-    codec: P::C,
-    folder: P::F,
-    base: Base<ValueOf<P>>,
-) -> Result<Shelf<P>, Fail>
-    requires base { IsTrue P.F.told → ReadsAs (P.C.reads codec) (P.C.default_of codec) 1048576 (P.F.contents folder).main (base_seen base) }
-    ensures { IfOk result (λ shelf. IsFresh A (shelf_seen shelf) × (is_among B.node (shelf_seen shelf).store.nodes ≡ true)) }
+    shelf: &mut Shelf<P>,
+    edit: P::T,
+    answer: Result<u64, UpdateError>,
+) -> bool
+    requires { IsFresh A (shelf_seen shelf.old) }
 {
-    let bounds = Bounds {
-        entries: 100,
-        weight: 1000,
-    };
-    let setup = Setup {
-        codec,
-        limit: 1_048_576,
-        bounds,
-    };
-    let mut shelf = Shelf::new(alloc, setup, base, folder);
-    shelf.add_node(alloc, A.node)?;
-    shelf.add_node(alloc, B.node)?;
-    Ok(shelf)
-}
-
-/// A session without a file, in which these calls of the folder fail.
-fn without_file(alloc: Global, failing: Vec<Planned>) -> Result<Shelf<Prefs>, Fail>
-    ensures { IfOk result (λ shelf. IsFresh A (shelf_seen shelf) × (is_among B.node (shelf_seen shelf).store.nodes ≡ true)) }
-{
-    let folder = MemFolder::new(alloc, MainRead::Absent, failing)?;
-    let settings = PrefsCodec.default_value(alloc)?;
-    session(
-        alloc,
-        PrefsCodec,
-        folder,
-        Base::Held(Arc::new(alloc, settings)?),
-    )
-}
-
-/// A session over a file of these bytes, which are a map of settings.
-fn with_file(alloc: Global, bytes: Vec<u8>) -> Result<Shelf<Prefs>, Fail>
-    ensures { IfOk result (λ shelf. IsFresh A (shelf_seen shelf) × (is_among B.node (shelf_seen shelf).store.nodes ≡ true)) }
-{
-    if bytes.len() > 1_048_576 {
-        return Err("too long".into());
-    }
-    let Decoded::Good(settings) = PrefsCodec.decode(alloc, bytes.as_slice())? else {
-        return Err("no settings".into());
-    };
-    let folder = MemFolder::new(
-        alloc,
-        MainRead::Bytes(FileBytes::new(bytes)),
-        Vec::new(alloc),
-    )?;
-    session(
-        alloc,
-        PrefsCodec,
-        folder,
-        Base::Held(Arc::new(alloc, settings)?),
-    )
-}
-
-fn key(alloc: Global, name: &str) -> Result<PrefKey, Fail> {
-    Ok(PrefKey::new(String::from_str(alloc, name)?)?)
-}
-
-/// The edit `set NAME int NUMBER`.
-fn set(alloc: Global, name: &str, number: i32) -> Result<Edit, Fail> {
-    let step = EditStep::Set {
-        key: key(alloc, name)?,
-        value: PrefValue::Int(number),
-    };
-    Ok(Edit::new(vec![in alloc; step]?)?)
-}
-
-/// The edit `addint NAME AMOUNT`.
-fn add(alloc: Global, name: &str, amount: i32) -> Result<Edit, Fail> {
-    let step = EditStep::AddInt {
-        key: key(alloc, name)?,
-        amount,
-    };
-    Ok(Edit::new(vec![in alloc; step]?)?)
-}
-
-#[test]
-#[tactic(auto, unfolding(hist_journal::specs::Folds::raises_of))]
-fn the_second_of_two_nodes_waits(rt: HostRuntime) -> Result<(), Fail> {
-    let alloc = rt.alloc();
-    let mut shelf = without_file(alloc, Vec::new(alloc))?;
     let mut word = PlainWord::new();
-    let (mut a, mut b) = begin_both(&shelf, (A, add(alloc, "x", 1)?), (B, add(alloc, "x", 1)?));
-    assert_eq!(rt; steps_of(alloc, &mut shelf, &mut word, &mut a, &b, 5), 5);
-    assert!(rt; !step_of_other(alloc, &mut shelf, &mut word, &a, &mut b));
-    in_rounds(alloc, &mut shelf, &mut word, &mut a, &mut b);
-    assert!(rt; a.answer() == Some(Ok(1)) && b.answer() == Some(Ok(2)));
-    let entries = [
-        (A, Told::Inited),
-        (A, Told::Raise),
-        (A, Told::Edit),
-        (A, Told::Synced),
-        (B, Told::Inited),
-        (B, Told::Raise),
-        (B, Told::Edit),
-        (B, Told::Synced),
-    ];
-    assert!(rt; tells(&shelf, &entries));
-    assert!(rt; main_is(shelf, &[0x0a, 7, 0x0a, 1, b'x', 0x12, 2, 0x18, 2]));
-    Ok(())
+    to_its_end(alloc, shelf, &mut word, A, edit) == answer
+}
+
+/// So do two of one client, one after another.
+#[tactic(auto, unfolding(hist_journal::specs::Folds::raises_of))]
+fn are_answered<P: Parts>(
+    alloc: Global,
+    shelf: &mut Shelf<P>,
+    edits: (P::T, P::T),
+    first: Result<u64, UpdateError>,
+    second: Result<u64, UpdateError>,
+) -> bool
+    requires { IsFresh A (shelf_seen shelf.old) }
+{
+    let mut word = PlainWord::new();
+    let (edit, next) = edits;
+    let told = one_after_another(alloc, shelf, &mut word, (A, edit), (A_NEXT, next));
+    told.0 == first && told.1 == second
+}
+
+/// One client has the lock five steps long, and the other waits. Then they go on in rounds.
+#[tactic(auto, unfolding(hist_journal::specs::Folds::raises_of))]
+fn take_turns<P: Parts>(alloc: Global, shelf: &mut Shelf<P>, one: P::T, other: P::T) -> bool
+    requires fresh { IsFresh A (shelf_seen shelf.old) }
+    requires node { is_among B.node (shelf_seen shelf.old).store.nodes ≡ true }
+{
+    let mut word = PlainWord::new();
+    let (mut a, mut b) = begin_both(shelf, (A, one), (B, other));
+    let went = steps_of(alloc, shelf, &mut word, &mut a, &b, 5);
+    let goes_too = step_of_other(alloc, shelf, &mut word, &a, &mut b);
+    in_rounds(alloc, shelf, &mut word, &mut a, &mut b);
+    went == 5 && !goes_too && a.answer() == Some(Ok(1)) && b.answer() == Some(Ok(2))
+}
+
+fn waits(alloc: Global) -> Option<bool> {
+    let one = add(alloc, "x", 1)?;
+    let other = add(alloc, "x", 1)?;
+    let mut shelf = without_file(alloc, Vec::new(alloc))?;
+    let went = take_turns::<Prefs>(alloc, &mut shelf, one, other);
+    let told = "a1 inited\na1 raise\na1 edit\na1 synced\nb1 inited\nb1 raise\nb1 edit\nb1 synced\n";
+    let is_told = went && tells(alloc, &shelf, told);
+    Some(is_told && main_is(shelf, &[0x0a, 7, 0x0a, 1, b'x', 0x12, 2, 0x18, 2]))
 }
 
 #[test]
-#[tactic(auto, unfolding(hist_journal::specs::Folds::raises_of))]
-fn an_equal_value_is_kept(rt: HostRuntime) -> Result<(), Fail> {
-    let alloc = rt.alloc();
+fn the_second_of_two_nodes_waits(rt: HostRuntime) {
+    assert_eq!(rt; waits(rt.alloc()), Some(true));
+}
+
+fn is_kept(alloc: Global) -> Option<bool> {
     let file = [0x0a, 7, 0x0a, 1, b'k', 0x12, 2, 0x18, 1];
-    let mut shelf = with_file(alloc, Vec::from_array(alloc, file)?)?;
-    let mut word = PlainWord::new();
     let edit = set(alloc, "k", 1)?;
-    let answer = to_its_end(alloc, &mut shelf, &mut word, A, edit);
-    assert!(rt; answer == Ok(0));
-    let entries = [(A, Told::Inited), (A, Told::Same), (A, Told::Synced)];
-    assert!(rt; tells(&shelf, &entries));
-    assert!(rt; main_is(shelf, &file));
-    Ok(())
+    let mut shelf = with_file(alloc, Vec::from_slice(alloc, &file).ok()?)?;
+    let is_answered = is_answered::<Prefs>(alloc, &mut shelf, edit, Ok(0));
+    let is_told = is_answered && tells(alloc, &shelf, "a1 inited\na1 same\na1 synced\n");
+    Some(is_told && main_is(shelf, &file))
 }
 
 #[test]
-#[tactic(auto, unfolding(hist_journal::specs::Folds::raises_of))]
-fn a_sum_past_the_greatest_number_is_refused(rt: HostRuntime) -> Result<(), Fail> {
-    let alloc = rt.alloc();
-    let mut shelf = without_file(alloc, Vec::new(alloc))?;
-    let mut word = PlainWord::new();
-    let first = set(alloc, "n", i32::MAX)?;
-    let second = add(alloc, "n", 1)?;
-    let (set, added) = one_after_another(
-        alloc,
-        &mut shelf,
-        &mut word,
-        (A, first),
-        (A_NEXT, second),
-    );
+fn an_equal_value_is_kept(rt: HostRuntime) {
+    assert_eq!(rt; is_kept(rt.alloc()), Some(true));
+}
+
+/// Whether two updates of a client without a file are answered so, tell this and leave this main.
+fn go_so(
+    alloc: Global,
+    failing: Vec<Planned>,
+    edits: (Edit, Edit),
+    first: Result<u64, UpdateError>,
+    second: Result<u64, UpdateError>,
+    told: &str,
+    main: &[u8],
+) -> bool {
+    let Some(mut shelf) = without_file(alloc, failing) else {
+        return false;
+    };
+    are_answered::<Prefs>(alloc, &mut shelf, edits, first, second)
+        && tells(alloc, &shelf, told)
+        && main_is(shelf, main)
+}
+
+fn is_refused(alloc: Global) -> Option<bool> {
+    let edits = (set(alloc, "n", i32::MAX)?, add(alloc, "n", 1)?);
     let refused = UpdateError::Refused {
         code: 2,
         edition: 1,
     };
-    assert!(rt; set == Ok(1) && added == Err(refused));
-    let entries = [
-        (A, Told::Inited),
-        (A, Told::Raise),
-        (A, Told::Edit),
-        (A, Told::Synced),
-    ];
-    assert!(rt; tells(&shelf, &entries));
+    let told = "a1 inited\na1 raise\na1 edit\na1 synced\n";
     let main = [
         0x0a, 0x0b, 0x0a, 1, b'n', 0x12, 6, 0x18, 0xff, 0xff, 0xff, 0xff, 7,
     ];
-    assert!(rt; main_is(shelf, &main));
-    Ok(())
+    Some(go_so(
+        alloc,
+        Vec::new(alloc),
+        edits,
+        Ok(1),
+        Err(refused),
+        told,
+        &main,
+    ))
+}
+
+#[test]
+fn a_sum_past_the_greatest_number_is_refused(rt: HostRuntime) {
+    assert_eq!(rt; is_refused(rt.alloc()), Some(true));
 }
 
 /// One call of this kind is to fail, the first one.
-fn first_fails(alloc: Global, call: FolderCall) -> Result<Vec<Planned>, Fail> {
+fn first_fails(alloc: Global, call: FolderCall) -> Result<Vec<Planned>, AllocError> {
     Ok(vec![in alloc; Planned { call, number: 1 }]?)
 }
 
-#[test]
-#[tactic(auto, unfolding(hist_journal::specs::Folds::raises_of))]
-fn a_change_is_not_known_to_last_where_the_folder_is_not_synced(
-    rt: HostRuntime,
-) -> Result<(), Fail> {
-    let alloc = rt.alloc();
-    let mut shelf = without_file(alloc, first_fails(alloc, FolderCall::SyncFolder)?)?;
-    let mut word = PlainWord::new();
+fn is_not_durable(alloc: Global) -> Option<bool> {
     let edit = set(alloc, "k", 1)?;
-    let answer = to_its_end(alloc, &mut shelf, &mut word, A, edit);
-    assert!(rt; answer == Err(UpdateError::NotDurable { at: 3 }));
-    let entries = [
-        (A, Told::Inited),
-        (A, Told::Raise),
-        (A, Told::Edit),
-        (A, Told::Fault),
-    ];
-    assert!(rt; tells(&shelf, &entries));
-    Ok(())
+    let failing = first_fails(alloc, FolderCall::SyncFolder).ok()?;
+    let mut shelf = without_file(alloc, failing)?;
+    let answer = Err(UpdateError::NotDurable { at: 3 });
+    let is_answered = is_answered::<Prefs>(alloc, &mut shelf, edit, answer);
+    Some(is_answered && tells(alloc, &shelf, "a1 inited\na1 raise\na1 edit\na1 fault\n"))
 }
 
 #[test]
-#[tactic(auto, unfolding(hist_journal::specs::Folds::raises_of))]
-fn the_call_behind_a_failed_rename_goes_well(rt: HostRuntime) -> Result<(), Fail> {
-    let alloc = rt.alloc();
-    let mut shelf = without_file(alloc, first_fails(alloc, FolderCall::Rename)?)?;
-    let mut word = PlainWord::new();
-    let first = set(alloc, "k", 1)?;
-    let second = set(alloc, "k", 2)?;
-    let (failed, went_well) = one_after_another(
-        alloc,
-        &mut shelf,
-        &mut word,
-        (A, first),
-        (A_NEXT, second),
-    );
-    assert!(rt; failed == Err(UpdateError::StorageFault { at: 3 }) && went_well == Ok(1));
-    let entries = [
-        (A, Told::Inited),
-        (A, Told::Raise),
-        (A, Told::Fault),
-        (A_NEXT, Told::Raise),
-        (A_NEXT, Told::Edit),
-        (A_NEXT, Told::Synced),
-    ];
-    assert!(rt; tells(&shelf, &entries));
-    assert!(rt; main_is(shelf, &[0x0a, 7, 0x0a, 1, b'k', 0x12, 2, 0x18, 2]));
-    Ok(())
+fn a_change_is_not_known_to_last_where_the_folder_is_not_synced(rt: HostRuntime) {
+    assert_eq!(rt; is_not_durable(rt.alloc()), Some(true));
+}
+
+fn goes_well_again(alloc: Global) -> Option<bool> {
+    let edits = (set(alloc, "k", 1)?, set(alloc, "k", 2)?);
+    let failing = first_fails(alloc, FolderCall::Rename).ok()?;
+    let told = "a1 inited\na1 raise\na1 fault\na2 raise\na2 edit\na2 synced\n";
+    let main = [0x0a, 7, 0x0a, 1, b'k', 0x12, 2, 0x18, 2];
+    let fault = Err(UpdateError::StorageFault { at: 3 });
+    Some(go_so(alloc, failing, edits, fault, Ok(1), told, &main))
+}
+
+#[test]
+fn the_call_behind_a_failed_rename_goes_well(rt: HostRuntime) {
+    assert_eq!(rt; goes_well_again(rt.alloc()), Some(true));
 }

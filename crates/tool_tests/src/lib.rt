@@ -1,5 +1,6 @@
-//! What data cannot say of the commands: devices that fail, files and edits at their limits, sources without an end. It
-//! stands on `prefs_tool` and its devices, and has tests alone. A row is a text, which is read as the test runs.
+//! What neither contracts nor data say of scripts, transcripts and the commands: texts that are read and printed, devices
+//! that fail, limits, sources without an end. It stands on all that it tests, and has tests alone. A row is a text, which is
+//! read as the test runs.
 #![tactic(auto)]
 
 #[cfg(test)]
@@ -14,3 +15,7 @@ mod large;
 mod replays;
 #[cfg(test)]
 mod rows;
+#[cfg(test)]
+mod scripts_read;
+#[cfg(test)]
+mod transcripts_written;

@@ -1,9 +1,10 @@
-//! The laws called at the types of the small store.
-use crate::{
+//! The laws of `shelf`, called at the types of its small store, and its worked histories and runs.
+use shelf::{
     ExampleEdit, calls_end, changes_are_raised, counts_rise, histories_are_lawful,
     histories_are_unlawful, histories_come_to, images_go_on, images_hold_what_is_synced,
     longer_is_legal, numbers_never_fall, open_is_pending, prefix_is_legal, quiet_is_fresh,
-    stores_have_their_base, updates_end_once,
+    runs_follow_the_table, runs_start_where_a_session_begins, stores_have_their_base,
+    updates_end_once, wrong_turns_are_refused,
 };
 
 #[test]
@@ -31,4 +32,11 @@ fn the_worked_histories_stand() {
     histories_are_unlawful();
     histories_come_to();
     stores_have_their_base();
+}
+
+#[test]
+fn the_worked_runs_stand() {
+    runs_follow_the_table();
+    runs_start_where_a_session_begins();
+    wrong_turns_are_refused();
 }

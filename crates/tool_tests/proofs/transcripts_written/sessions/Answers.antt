@@ -5,7 +5,7 @@ use Rattle.std.proofs.lemmas.List.Elements.{All-append, All-cons, All-nil}
 use Rattle.script_lang.specs.declared.session.Session.{Session}
 use Rattle.script_lang.specs.TranscriptText.{SessionHasNames}
 use Rattle.script_lang.specs.TranscriptView.{SessionSeen, session_seen}
-use Rattle.script_lang.proofs.writing.tests.sessions.Goals as goal
+use Rattle.tool_tests.proofs.transcripts_written.sessions.Goals as goal
 
 all_more : (P : SessionSeen → Type 0) (sessions more : List Session) (session : Session) → more ≡ sessions ++ session ∷ [] → All P (map session_seen sessions) → P (session_seen session) → All P (map session_seen more)
 all_more P sessions more session is all one =

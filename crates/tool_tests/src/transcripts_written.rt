@@ -6,17 +6,16 @@ ghost use Rattle.prefs_text.specs.EntryText.{EntryHasNames, KindHasNames};
 ghost use Rattle.script_lang.specs.TranscriptText.{HasNames, SessionHasNames};
 ghost use Rattle.script_lang.specs.TranscriptView.{session_seen};
 
-use crate::{
-    AnswerList, FileSeen, Session, SessionList, Transcript, WriteTextError, write_transcript,
-};
 use byte_io::MemSink;
 use hist_journal::{Base, Bounds, Entry, Journal, Kind, PrefName};
 use prefs_edit::Edit;
 use prefs_model::PrefMap;
 use prefs_text::{Answer, AnswerLine, NameList, Names};
-use std::alloc::Global;
+use script_lang::{
+    AnswerList, FileSeen, Session, SessionList, Transcript, WriteTextError, write_transcript,
+};
+use std::alloc::{AllocError, Global};
 use std::sync::Arc;
-use std::test::Fail;
 use store_traits::{CallId, ClientId, FileBytes, NodeId};
 
 fn call(number: u32) -> CallId
@@ -29,7 +28,7 @@ fn call(number: u32) -> CallId
     }
 }
 
-fn one_name(alloc: Global, text: &str) -> Result<NameList, Fail>
+fn one_name(alloc: Global, text: &str) -> Result<NameList, AllocError>
     ensures { IfOk result (λ list. length list ≡ 1) }
 {
     let mut names = Vec::new(alloc);
@@ -37,7 +36,7 @@ fn one_name(alloc: Global, text: &str) -> Result<NameList, Fail>
     Ok(NameList::new(names))
 }
 
-fn names(alloc: Global) -> Result<Names, Fail>
+fn names(alloc: Global) -> Result<Names, AllocError>
     ensures { IfOk result (λ names. (length names.nodes ≡ 1) × (length names.clients ≡ 1)) }
 {
     let nodes = one_name(alloc, "n1")?;
@@ -46,7 +45,7 @@ fn names(alloc: Global) -> Result<Names, Fail>
 }
 
 // The answers of so many updates.
-fn answers(alloc: Global, names: &Names, count: u32) -> Result<AnswerList, Fail>
+fn answers(alloc: Global, names: &Names, count: u32) -> Result<AnswerList, AllocError>
     requires { length names.now.clients ≡ 1 }
     ensures { IfOk result (All (AnswerHasNames names.now)) }
 {
@@ -66,7 +65,7 @@ fn add(
     journal: &mut Journal<PrefMap, Edit>,
     names: &Names,
     kind: Kind<PrefMap, Edit>,
-) -> Result<(), Fail>
+) -> Result<(), AllocError>
     requires client { length names.now.clients ≡ 1 }
     requires node { KindHasNames names.now (kind_seen kind) }
     requires so_far { All (EntryHasNames names.now) journal.old.list }
@@ -80,7 +79,11 @@ fn add(
 }
 
 // A node that is initialised and raised the version, or nothing.
-fn journal(alloc: Global, names: &Names, is_empty: bool) -> Result<Journal<PrefMap, Edit>, Fail>
+fn journal(
+    alloc: Global,
+    names: &Names,
+    is_empty: bool,
+) -> Result<Journal<PrefMap, Edit>, AllocError>
     requires client { length names.now.clients ≡ 1 }
     requires node { length names.now.nodes ≡ 1 }
     ensures { IfOk result (λ journal. All (EntryHasNames names.now) journal.list) }
@@ -97,7 +100,7 @@ fn journal(alloc: Global, names: &Names, is_empty: bool) -> Result<Journal<PrefM
     Ok(journal)
 }
 
-fn base(alloc: Global, which: u8) -> Result<Base<PrefMap>, Fail> {
+fn base(alloc: Global, which: u8) -> Result<Base<PrefMap>, AllocError> {
     Ok(match which {
         0 => Base::Held(Arc::new(alloc, PrefMap::new(alloc))?),
         1 => Base::Corrupt,
@@ -105,7 +108,7 @@ fn base(alloc: Global, which: u8) -> Result<Base<PrefMap>, Fail> {
     })
 }
 
-fn file(alloc: Global, which: u8) -> Result<FileSeen, Fail> {
+fn file(alloc: Global, which: u8) -> Result<FileSeen, AllocError> {
     Ok(match which {
         0 => FileSeen::Bytes(FileBytes::new(Vec::from_slice(alloc, &[0x0a, 0xff, 0])?)),
         1 => FileSeen::Bytes(FileBytes::new(Vec::new(alloc))),
@@ -115,7 +118,7 @@ fn file(alloc: Global, which: u8) -> Result<FileSeen, Fail> {
 }
 
 // The first session alone has answers and entries.
-fn session(alloc: Global, names: &Names, which: u8, count: u32) -> Result<Session, Fail>
+fn session(alloc: Global, names: &Names, which: u8, count: u32) -> Result<Session, AllocError>
     requires client { length names.now.clients ≡ 1 }
     requires node { length names.now.nodes ≡ 1 }
     ensures { IfOk result (λ session. SessionHasNames names.now (session_seen session)) }
@@ -128,7 +131,7 @@ fn session(alloc: Global, names: &Names, which: u8, count: u32) -> Result<Sessio
     })
 }
 
-fn sessions(alloc: Global, names: &Names, count: u32) -> Result<SessionList, Fail>
+fn sessions(alloc: Global, names: &Names, count: u32) -> Result<SessionList, AllocError>
     requires client { length names.now.clients ≡ 1 }
     requires node { length names.now.nodes ≡ 1 }
     ensures { IfOk result (All (SessionHasNames names.now)) }
@@ -140,7 +143,7 @@ fn sessions(alloc: Global, names: &Names, count: u32) -> Result<SessionList, Fai
     Ok(SessionList::new(sessions))
 }
 
-fn transcript(alloc: Global, count: u32) -> Result<Transcript, Fail>
+fn transcript(alloc: Global, count: u32) -> Result<Transcript, AllocError>
     ensures { IfOk result HasNames }
 {
     let names = names(alloc)?;
@@ -148,12 +151,10 @@ fn transcript(alloc: Global, count: u32) -> Result<Transcript, Fail>
     Ok(Transcript { names, sessions })
 }
 
-// What the sink holds once the transcript with so many answers was written to it, and how that ended.
-fn written(
-    alloc: Global,
-    count: u32,
-    failing: Vec<u32>,
-) -> Result<(MemSink, Result<(), WriteTextError>), Fail> {
+/// The sink behind the writing of a transcript with so many answers, and how that ended.
+type Written = (MemSink, Result<(), WriteTextError>);
+
+fn written(alloc: Global, count: u32, failing: Vec<u32>) -> Result<Written, AllocError> {
     let transcript = transcript(alloc, count)?;
     let mut sink = MemSink::new(alloc, 1 << 20, failing)?;
     let ended = write_transcript(alloc, &mut sink, &transcript);
@@ -179,27 +180,39 @@ base toolong 1048577
 file none
 ";
 
-#[test]
-fn every_session_is_written(rt: HostRuntime) -> Result<(), Fail> {
-    let (sink, ended) = written(rt.alloc(), 2, Vec::new(rt.alloc()))?;
-    assert_eq!(rt; ended, Ok(()));
-    assert_eq!(rt; sink.held(), TEXT.as_bytes());
-    Ok(())
+fn is_written(alloc: Global) -> Option<bool> {
+    let (sink, ended) = written(alloc, 2, Vec::new(alloc)).ok()?;
+    Some(ended == Ok(()) && sink.held() == TEXT.as_bytes())
 }
 
 #[test]
-fn many_lines_are_written_at_once(rt: HostRuntime) -> Result<(), Fail> {
-    let (sink, ended) = written(rt.alloc(), 1000, vec![in rt.alloc(); 2]?)?;
-    assert_eq!(rt; ended, Err(WriteTextError::WriteFault));
+fn every_session_is_written(rt: HostRuntime) {
+    assert_eq!(rt; is_written(rt.alloc()), Some(true));
+}
+
+/// What the sink holds where its write of this number fails.
+fn front(alloc: Global, count: u32, failing: u32) -> Result<Option<MemSink>, AllocError> {
+    let (sink, ended) = written(alloc, count, vec![in alloc; failing]?)?;
+    Ok((ended == Err(WriteTextError::WriteFault)).then_some(sink))
+}
+
+fn is_front(alloc: Global) -> Option<bool> {
+    let sink = front(alloc, 1000, 2).ok()??;
     let first = sink.held();
-    assert!(rt; first.len() >= 4096 && first.len() < 4200 && first.ends_with(b"\n"));
-    Ok(())
+    Some(first.len() >= 4096 && first.len() < 4200 && first.ends_with(b"\n"))
 }
 
 #[test]
-fn a_write_that_fails_is_a_fault(rt: HostRuntime) -> Result<(), Fail> {
-    let (sink, ended) = written(rt.alloc(), 2, vec![in rt.alloc(); 1]?)?;
-    assert_eq!(rt; ended, Err(WriteTextError::WriteFault));
-    assert!(rt; sink.held().is_empty());
-    Ok(())
+fn many_lines_are_written_at_once(rt: HostRuntime) {
+    assert_eq!(rt; is_front(rt.alloc()), Some(true));
+}
+
+fn is_nothing(alloc: Global) -> Option<bool> {
+    let sink = front(alloc, 2, 1).ok()??;
+    Some(sink.held().is_empty())
+}
+
+#[test]
+fn a_write_that_fails_is_a_fault(rt: HostRuntime) {
+    assert_eq!(rt; is_nothing(rt.alloc()), Some(true));
 }

@@ -2,7 +2,7 @@
 use Rattle.std.specs.Prelude.{All, map}
 use Rattle.prefs_text.specs.AnswerText.{AnswerHasNames}
 use Rattle.prefs_text.specs.AnswerView.{line_seen}
-use Rattle.script_lang.proofs.writing.tests.answers.Given as goal
+use Rattle.tool_tests.proofs.transcripts_written.answers.Given as goal
 
 abbrev pub invariant-loop-number : goal.invariant-loop-number
 invariant-loop-number l = All (AnswerHasNames l.names) (map line_seen l.lines.items)

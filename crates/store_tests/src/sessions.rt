@@ -1,0 +1,184 @@
+//! Sessions of two nodes with settings over a folder in memory, and what is seen of them.
+ghost use Rattle.std.specs.Prelude.{◌≡◌, IfSome, IsTrue, true};
+ghost use Rattle.hist_journal.specs.View.{base_seen};
+ghost use Rattle.shelf.specs.AddsNode.{is_among};
+ghost use Rattle.shelf.specs.Base.{ReadsAs};
+ghost use Rattle.shelf.specs.ShelfSeen.{shelf_seen};
+ghost use Rattle.store_tests.specs.SingleUpdate.{IsFresh};
+
+use folder_disk::{MainRead, MemFolder, Planned};
+use hist_journal::{Base, Bounds, Kind};
+use prefs_edit::{Edit, EditStep};
+use prefs_model::{PrefKey, PrefMap, PrefValue};
+use prefs_proto::PrefsCodec;
+use replay_run::PrefsParts;
+use shelf::{Parts, Setup, Shelf, ValueOf};
+use std::alloc::{AllocError, Global};
+use std::sync::Arc;
+use store_traits::{CallId, ClientId, Codec, Decoded, FileBytes, NodeId};
+
+pub type Prefs = PrefsParts<MemFolder>;
+
+/// The calls of two clients, each on a node of its own.
+pub const A: CallId = CallId {
+    node: NodeId(0),
+    client: ClientId(0),
+    number: 1,
+};
+
+/// The call of the first client behind that.
+pub const A_NEXT: CallId = CallId {
+    node: NodeId(0),
+    client: ClientId(0),
+    number: 2,
+};
+
+pub const B: CallId = CallId {
+    node: NodeId(1),
+    client: ClientId(1),
+    number: 1,
+};
+
+/// A session of two nodes, over a folder whose main reads as this base.
+fn session<P: Parts>(
+    alloc: Global,
+    codec: P::C,
+    folder: P::F,
+    base: Base<ValueOf<P>>,
+) -> Option<Shelf<P>>
+    requires base { IsTrue P.F.told → ReadsAs (P.C.reads codec) (P.C.default_of codec) 1048576 (P.F.contents folder).main (base_seen base) }
+    ensures { IfSome result (λ shelf. IsFresh A (shelf_seen shelf) × (is_among B.node (shelf_seen shelf).store.nodes ≡ true)) }
+{
+    let bounds = Bounds {
+        entries: 100,
+        weight: 1000,
+    };
+    let setup = Setup {
+        codec,
+        limit: 1_048_576,
+        bounds,
+    };
+    let mut shelf = Shelf::new(alloc, setup, base, folder);
+    let Ok(()) = shelf.add_node(alloc, A.node) else {
+        return None;
+    };
+    let Ok(()) = shelf.add_node(alloc, B.node) else {
+        return None;
+    };
+    Some(shelf)
+}
+
+/// A session without a file, in which these calls of the folder fail.
+pub fn without_file(alloc: Global, failing: Vec<Planned>) -> Option<Shelf<Prefs>>
+    ensures { IfSome result (λ shelf. IsFresh A (shelf_seen shelf) × (is_among B.node (shelf_seen shelf).store.nodes ≡ true)) }
+{
+    let Ok(folder) = MemFolder::new(alloc, MainRead::Absent, failing) else {
+        return None;
+    };
+    let Ok(settings) = PrefsCodec.default_value(alloc) else {
+        return None;
+    };
+    let Ok(settings) = Arc::new(alloc, settings) else {
+        return None;
+    };
+    session(alloc, PrefsCodec, folder, Base::Held(settings))
+}
+
+/// A session over a file of these bytes, which are a map of settings.
+pub fn with_file(alloc: Global, bytes: Vec<u8>) -> Option<Shelf<Prefs>>
+    ensures { IfSome result (λ shelf. IsFresh A (shelf_seen shelf) × (is_among B.node (shelf_seen shelf).store.nodes ≡ true)) }
+{
+    if bytes.len() > 1_048_576 {
+        return None;
+    }
+    let Ok(Decoded::Good(settings)) = PrefsCodec.decode(alloc, bytes.as_slice()) else {
+        return None;
+    };
+    let Ok(settings) = Arc::new(alloc, settings) else {
+        return None;
+    };
+    let main = MainRead::Bytes(FileBytes::new(bytes));
+    let Ok(folder) = MemFolder::new(alloc, main, Vec::new(alloc)) else {
+        return None;
+    };
+    session(alloc, PrefsCodec, folder, Base::Held(settings))
+}
+
+fn key(alloc: Global, name: &str) -> Option<PrefKey> {
+    PrefKey::new(String::from_str(alloc, name).ok()?).ok()
+}
+
+fn edit_of(alloc: Global, step: EditStep) -> Option<Edit> {
+    let Ok(steps) = vec![in alloc; step] else {
+        return None;
+    };
+    Edit::new(steps).ok()
+}
+
+/// The edit `set NAME int NUMBER`.
+pub fn set(alloc: Global, name: &str, number: i32) -> Option<Edit> {
+    let key = key(alloc, name)?;
+    let value = PrefValue::Int(number);
+    edit_of(alloc, EditStep::Set { key, value })
+}
+
+/// The edit `addint NAME AMOUNT`.
+pub fn add(alloc: Global, name: &str, amount: i32) -> Option<Edit> {
+    let key = key(alloc, name)?;
+    edit_of(alloc, EditStep::AddInt { key, amount })
+}
+
+/// The edit `clear`.
+pub fn clear(alloc: Global) -> Option<Edit> {
+    edit_of(alloc, EditStep::Clear)
+}
+
+fn name_of(call: CallId) -> &'static str {
+    if call == A {
+        "a1"
+    } else if call == A_NEXT {
+        "a2"
+    } else if call == B {
+        "b1"
+    } else {
+        "nobody"
+    }
+}
+
+fn word_of(kind: &Kind<PrefMap, Edit>) -> &'static str {
+    match kind {
+        Kind::Raise => " raise\n",
+        Kind::Edit(_) => " edit\n",
+        Kind::Same(_) => " same\n",
+        Kind::Synced => " synced\n",
+        Kind::Inited(_) => " inited\n",
+        Kind::Fault(_, _) => " fault\n",
+        _ => " another\n",
+    }
+}
+
+/// What the history tells, an entry a line.
+fn told(alloc: Global, shelf: &Shelf<Prefs>) -> Result<String, AllocError> {
+    let mut lines = String::new(alloc);
+    for place in 0..shelf.journal().len() {
+        if let Some(entry) = shelf.journal().entry(place + 1) {
+            lines.push_str(name_of(entry.who))?;
+            lines.push_str(word_of(&entry.kind))?;
+        }
+    }
+    Ok(lines)
+}
+
+/// Whether the history tells these lines.
+pub fn tells(alloc: Global, shelf: &Shelf<Prefs>, lines: &str) -> bool {
+    match told(alloc, shelf) {
+        Ok(told) => told.as_str() == lines,
+        Err(_) => false,
+    }
+}
+
+/// Whether main has these bytes.
+pub fn main_is(shelf: Shelf<Prefs>, bytes: &[u8]) -> bool {
+    let folder = shelf.into_parts().folder;
+    folder.main().is_some_and(|main| main == bytes)
+}
