@@ -1,4 +1,5 @@
 pub mod Memory
 pub mod ReadAll
+pub mod Seen
 pub mod Sink
 pub mod Source

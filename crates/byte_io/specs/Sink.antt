@@ -6,7 +6,14 @@ abbrev pub Writes : {E : Type 0} → Bool → List ℕ → List ℕ → Result �
 Writes told old piece (Ok taken) new = (taken ≤ length piece) × (0 < length piece → 0 < taken) × (IsTrue told → new ≡ old ++ take taken piece)
 Writes told old piece (Err e) new = IsTrue told → new ≡ old
 
--- the sink took a front of the piece, and all of it where nothing failed
+-- the sink gained a prefix of the piece
+pub record GainsPrefix (piece old new : List ℕ) : Type 0 where
+  pub prefix : List ℕ
+  pub rest : List ℕ
+  pub parts : piece ≡ prefix ++ rest
+  pub gained : new ≡ old ++ prefix
+
+-- the sink took a prefix of the piece, and all of it where nothing failed
 abbrev pub WritesAll : {T E : Type 0} → List ℕ → List ℕ → Result T E → List ℕ → Type 0
 WritesAll old piece (Ok done) new = new ≡ old ++ piece
-WritesAll old piece (Err e) new = (taken : ℕ) × (new ≡ old ++ take taken piece)
+WritesAll old piece (Err e) new = GainsPrefix piece old new

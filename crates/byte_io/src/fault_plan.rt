@@ -1,11 +1,13 @@
-ghost use Rattle.std.specs.Prelude.{◌≡◌, ◌≤◌, ◌-◌, ◌^◌, ℕ, false};
-ghost use Rattle.std.specs.Bool.{OnFalse};
+ghost use Rattle.std.specs.Prelude.{◌≡◌, ◌≤◌, ◌<◌, ◌-◌, ◌^◌, ◌==◌, ◌||◌, if◌then◌else◌};
+ghost use Rattle.std.specs.List.{list_any};
 ghost use Rattle.store_traits.specs.Faults.{Counts};
+ghost use Rattle.byte_io.specs.Memory.{PlanSeen, fresh_plan, is_planned, after_call};
 
 use std::marker::Model;
 use store_traits::FaultCount;
 
-/// Which calls of a device in memory fail, by their numbers from 1 on. Clauses see the count of faults.
+/// Which calls of a device in memory fail, by their numbers from 1 on. Clauses see them, how many calls
+/// were made, and the count of faults.
 #[derive(Drop)]
 pub(crate) struct FaultPlan {
     failing: Vec<u32>,
@@ -14,14 +16,14 @@ pub(crate) struct FaultPlan {
 }
 
 impl Model for FaultPlan {
-    ghost Value = { ℕ };
+    ghost Value = { PlanSeen };
 
-    ghost view = { λ plan. plan.faults };
+    ghost view = { λ plan. record { failing = plan.failing.items; calls = plan.calls; faults = plan.faults } };
 }
 
 impl FaultPlan {
     pub(crate) fn new(failing: Vec<u32>) -> FaultPlan
-        ensures { result ≡ 0 }
+        ensures { result ≡ fresh_plan failing.items }
     {
         FaultPlan {
             failing,
@@ -32,19 +34,21 @@ impl FaultPlan {
 
     /// Counts one more call, which also fails where it `cannot` succeed, and says whether it fails.
     pub(crate) fn fails(&mut self, cannot: bool) -> bool
-        ensures counts { Counts result self.old self.new }
-        ensures fits { self.new ≤ 2 ^ 64 - 1 }
-        ensures same { OnFalse result (self.new ≡ self.old) }
-        ensures cannot { OnFalse result (cannot ≡ false) }
+        ensures failed { result ≡ (is_planned self.old || cannot) }
+        ensures after { self.new ≡ after_call result self.old }
+        ensures faults { Counts result self.old.faults self.new.faults }
+        ensures fits { self.new.faults ≤ 2 ^ 64 - 1 }
     {
         self.calls = self.calls.saturating_add(1);
-        let calls = self.calls;
-        let has_failed = cannot
-            || self
-                .failing
-                .iter()
-                .any(|number| u64::from(*number) == calls);
+        let has_failed = is_listed(&self.failing, self.calls) || cannot;
         self.faults.count(has_failed);
         has_failed
     }
+}
+
+// Whether the call of this number is one of those that fail.
+fn is_listed(failing: &[u32], call: u64) -> bool
+    ensures { result ≡ list_any (λ number. number == call) failing.now }
+{
+    failing.iter().any(|number| u64::from(*number) == call)
 }

@@ -1,5 +1,7 @@
-ghost use Rattle.std.specs.Prelude.{◌≡◌, ◌≤◌, ◌<◌, ◌^◌, [], true, vec_len, vec_capacity, IfOk};
-ghost use Rattle.byte_io.specs.Memory.{SinkSeen};
+ghost use Rattle.std.specs.Prelude.{◌≡◌, ◌≤◌, ◌<◌, ◌-◌, ◌^◌, [], true, vec_len, vec_capacity, is_err, IfOk};
+ghost use Rattle.store_traits.specs.Faults.{Counts};
+ghost use Rattle.byte_io.specs.Memory.{MemSinkSeen, WritesMemory, fresh_plan};
+ghost use Rattle.byte_io.specs.Sink.{Writes};
 
 use crate::Sink;
 use crate::fault_plan::FaultPlan;
@@ -16,9 +18,9 @@ pub struct MemSink {
 }
 
 impl Model for MemSink {
-    ghost Value = { SinkSeen };
+    ghost Value = { MemSinkSeen };
 
-    ghost view = { λ s. record { held = s.held.items; room = s.room; faults = s.plan } };
+    ghost view = { λ s. record { held = s.held.items; room = s.room; plan = s.plan } };
 
     ghost invariant = { λ s. (vec_len s.held ≤ s.room) × (s.room ≤ vec_capacity s.held) };
 }
@@ -28,7 +30,7 @@ impl MemSink {
     /// fails too once the room is used up.
     pub fn new(alloc: Global, room: u64, failing: Vec<u32>) -> Result<MemSink, AllocError>
         requires { room < 2 ^ 63 }
-        ensures { IfOk result (λ sink. sink ≡ record { held = []; room = room; faults = 0 }) }
+        ensures { IfOk result (λ sink. sink ≡ record { held = []; room = room; plan = fresh_plan failing.items }) }
     {
         let room = room as usize;
         Ok(MemSink {
@@ -51,9 +53,14 @@ impl Sink for MemSink {
 
     ghost held = { λ s. s.held };
 
-    ghost count = { λ s. s.faults };
+    ghost count = { λ s. s.plan.faults };
 
-    fn write(&mut self, piece: &[u8]) -> Result<usize, Failed> {
+    fn write(&mut self, piece: &[u8]) -> Result<usize, Failed>
+        ensures taken { Writes true self.old.held piece.now result self.new.held }
+        ensures memory { WritesMemory piece.now self.old result self.new }
+        ensures faults { Counts (is_err result) self.old.plan.faults self.new.plan.faults }
+        ensures fits { self.new.plan.faults ≤ 2 ^ 64 - 1 }
+    {
         let len = piece.len().min(self.room - self.held.len());
         if self.plan.fails(len == 0 && !piece.is_empty()) {
             return Err(Failed);

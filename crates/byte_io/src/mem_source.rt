@@ -1,5 +1,7 @@
-ghost use Rattle.std.specs.Prelude.{◌≡◌, true};
-ghost use Rattle.byte_io.specs.Memory.{SourceSeen};
+ghost use Rattle.std.specs.Prelude.{◌≡◌, ◌≤◌, ◌-◌, ◌^◌, true, length, is_err};
+ghost use Rattle.store_traits.specs.Faults.{Counts};
+ghost use Rattle.byte_io.specs.Memory.{MemSourceSeen, ReadsMemory, fresh_plan};
+ghost use Rattle.byte_io.specs.Source.{Reads};
 
 use crate::Source;
 use crate::fault_plan::FaultPlan;
@@ -15,15 +17,15 @@ pub struct MemSource {
 }
 
 impl Model for MemSource {
-    ghost Value = { SourceSeen };
+    ghost Value = { MemSourceSeen };
 
-    ghost view = { λ s. record { left = s.unread; faults = s.plan } };
+    ghost view = { λ s. record { left = s.unread; plan = s.plan } };
 }
 
 impl MemSource {
     /// The numbers of the reads that fail count from 1. It takes no memory.
     pub fn new(bytes: FileBytes, failing: Vec<u32>) -> MemSource
-        ensures { result ≡ record { left = bytes; faults = 0 } }
+        ensures { result ≡ record { left = bytes; plan = fresh_plan failing.items } }
     {
         MemSource {
             unread: Unread::new(bytes),
@@ -37,9 +39,14 @@ impl Source for MemSource {
 
     ghost left = { λ s. s.left };
 
-    ghost count = { λ s. s.faults };
+    ghost count = { λ s. s.plan.faults };
 
-    fn read(&mut self, into: &mut [u8]) -> Result<usize, Failed> {
+    fn read(&mut self, into: &mut [u8]) -> Result<usize, Failed>
+        ensures taken { Reads true self.old.left (length into.old) result into.new self.new.left }
+        ensures memory { ReadsMemory (length into.old) self.old result self.new }
+        ensures faults { Counts (is_err result) self.old.plan.faults self.new.plan.faults }
+        ensures fits { self.new.plan.faults ≤ 2 ^ 64 - 1 }
+    {
         if self.plan.fails(false) {
             return Err(Failed);
         }

@@ -1,5 +1,7 @@
 ghost use Rattle.std.specs.Prelude.{◌≡◌, ◌≤◌, ◌<◌, ◌^◌, ◌+◌, IsTrue, length, vec_len, take, is_ok};
-ghost use Rattle.byte_io.specs.ReadAll.{ReadsAll, Gathers};
+ghost use Rattle.store_traits.specs.Faults.{Counts};
+ghost use Rattle.byte_io.specs.ReadAll.{ReadsAll, Gathers, is_read_fault};
+ghost use Rattle.byte_io.specs.Seen.{source_seen};
 
 use crate::{ReadAllError, Source};
 use std::alloc::Global;
@@ -15,7 +17,8 @@ pub fn read_all<S: Source>(
     limit: u64,
 ) -> Result<FileBytes, ReadAllError>
     requires { limit < 2 ^ 63 }
-    ensures { ReadsAll S.told limit (S.left source.old) (S.count source.old) result (S.left source.new) (S.count source.new) }
+    ensures read { ReadsAll limit (source_seen S.Source source.old) result (source_seen S.Source source.new) }
+    ensures faults { Counts (is_read_fault result) (S.count source.old) (S.count source.new) }
 {
     let mut bytes = Vec::new(alloc);
     loop {
@@ -37,7 +40,8 @@ fn read_piece<S: Source>(
     wanted: u64,
 ) -> Result<usize, ReadAllError>
     requires { 0 < wanted }
-    ensures { Gathers S.told wanted bytes.old.items (S.left source.old) (S.count source.old) result bytes.new.items (S.left source.new) (S.count source.new) }
+    ensures gathered { Gathers wanted bytes.old.items (source_seen S.Source source.old) result bytes.new.items (source_seen S.Source source.new) }
+    ensures faults { Counts (is_read_fault result) (S.count source.old) (S.count source.new) }
 {
     let mut buffer = [0u8; PIECE_LEN];
     let room = wanted.min(PIECE_LEN as u64) as usize;

@@ -28,7 +28,7 @@ impl Unread {
 
     /// Takes as many bytes as there are and `into` has room for, and says how many.
     pub(crate) fn read(&mut self, into: &mut [u8]) -> usize
-        ensures room { result ≤ length into.old }
+        ensures len { result ≡ min (length self.old) (length into.old) }
         ensures taken { Takes self.old (length into.old) result into.new self.new }
     {
         let left = &self.bytes.as_slice()[self.taken..];

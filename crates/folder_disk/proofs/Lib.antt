@@ -1,3 +1,4 @@
 pub mod PlanLemmas
 pub mod MainsLemmas
 pub mod FolderLemmas
+pub mod CallLemmas

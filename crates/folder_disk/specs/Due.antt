@@ -1,6 +1,7 @@
 -- What decides which calls of a folder fail, where the folder tells it.
-use Rattle.std.specs.Prelude.{ℕ, ◌+◌, ◌-◌, ◌^◌, ◌==◌, min, Bool, ◌&&◌, ◌||◌, List, [], ◌∷◌, if◌then◌else◌}
+use Rattle.std.specs.Prelude.{ℕ, ◌+◌, ◌-◌, ◌==◌, Bool, ◌&&◌, ◌||◌, List, [], ◌∷◌, if◌then◌else◌}
 use Rattle.std.specs.List.{list_any}
+use Rattle.store_traits.specs.Faults.{one_more}
 use Rattle.folder_disk.specs.declared.call.FolderCall.{FolderCall}
 use Rattle.folder_disk.specs.declared.call.FolderCall.TheVariants.{ReadMain, Create, Append, SyncScratch, Rename, SyncFolder}
 use Rattle.folder_disk.specs.declared.call.Planned.{Planned}
@@ -19,10 +20,6 @@ count_of made Append = made.append
 count_of made SyncScratch = made.sync_scratch
 count_of made Rename = made.rename
 count_of made SyncFolder = made.sync_folder
-
--- one more, but for a count at its end
-abbrev pub one_more : ℕ → ℕ
-one_more count = min (count + 1) (2 ^ 64 - 1)
 
 abbrev pub counted : FolderCall → CallCounts → CallCounts
 counted ReadMain made = record made { read_main = one_more made.read_main }

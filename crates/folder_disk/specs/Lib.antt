@@ -1,3 +1,4 @@
+pub mod Calls
 pub mod Contents
 pub mod Due
 pub mod MainRead
@@ -6,4 +7,5 @@ pub mod MemFolder
 pub mod MemScratch
 pub mod Planned
 pub mod Room
+pub mod Seen
 pub mod Tally

@@ -1,8 +1,8 @@
 -- A folder's count of faults, and what a call does to it.
 use Rattle.std.specs.Prelude.{ℕ, ◌≡◌, ◌+◌, ◌-◌, ◌^◌, ◌≤◌, min, Bool, IsTrue, List, [], ◌∷◌, length, Option, Some, None, if◌then◌else◌}
-use Rattle.store_traits.specs.Faults.{Counts}
+use Rattle.store_traits.specs.Faults.{Counts, one_more}
 use Rattle.folder_disk.specs.declared.call.FolderCall.{FolderCall}
-use Rattle.folder_disk.specs.Due.{Due, one_more, fails, taken_in}
+use Rattle.folder_disk.specs.Due.{Due, fails, taken_in}
 
 -- the count of faults; a number that it does not pass, set at the last start, or none; and what decides which calls fail
 pub record Tally : Type 0 where

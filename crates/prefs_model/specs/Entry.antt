@@ -1,4 +1,5 @@
--- Entries as they came: a key with its value or none. Of those with one key the last counts.
+-- Entries, each a key with its value or none. Of those that came with one key the last counts. The lists here have the
+-- last that came at their front, as `reverse` gives them, so that of one key the first counts.
 use Rattle.std.specs.Prelude.{ℕ, ◌≡◌, List, Option, None, Some, IfSome, Result, Ok, Err}
 use Rattle.std.specs.Option.{option_map}
 use Rattle.std.specs.declared.cmp.Ordering.TheVariants.{Less}
@@ -10,6 +11,7 @@ use Rattle.prefs_model.specs.Value.{IsValue}
 use Rattle.prefs_model.specs.Map.{value_at}
 use Rattle.prefs_model.specs.Rising.{key_cmp, value_under}
 
+-- the parts of an entry by which lists of any keyed things are searched
 abbrev pub name_of : PrefEntry → List ℕ
 name_of entry = entry.key
 

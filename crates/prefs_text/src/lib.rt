@@ -1,6 +1,6 @@
-//! Exact texts of values and maps, and which value a text is. It stands on `prefs_model` and on `serde_json` for
-//! quoted texts. The one contract above it is the text of each value, `value_text`, and the values that texts are,
-//! `IsValueText`.
+//! Exact texts of values and maps, of edits, entries and answers, and which value a text is. It stands on
+//! `prefs_model`, `prefs_edit` and `hist_journal` for what is told, and on `serde_json`, `hex` and `itoa` for its parts.
+//! The contracts above it are the one text of each, and `IsValueText`, the value that a text is.
 #![tactic(auto)]
 
 mod answer;

@@ -2,7 +2,11 @@ pub mod AppendLemmas
 pub mod ChangeLemmas
 pub mod CompleteLemmas
 pub mod EndLemmas
+pub mod FaultStatus
+pub mod FolderLemmas
+pub mod OnePrint
 pub mod ReadLemmas
+pub mod ReplaceLemmas
 pub mod ReplayCauses
 pub mod ReplayLemmas
 pub mod ShowLemmas

@@ -1,14 +1,17 @@
 -- Lines that are gathered and written piece by piece.
-use Rattle.std.proofs.Common.{◌≡◌, ◌∙◌, ◌≤◌, ◌<◌, ◌++◌, ◌∷◌, ◌+◌, ℕ, Bool, IsTrue, Result, Ok, Err, List, [], take, drop, length, get_or, sym, ap, subst, append_assoc, append-nil, arith}
+use Rattle.std.proofs.Common.{◌≡◌, ◌∙◌, ◌<◌, ◌++◌, ◌∷◌, ◌+◌, ℕ, IsTrue, Result, Ok, Err, List, [], take, drop, length, get_or, sym, ap, subst, append_assoc, append-nil}
 use Rattle.std.proofs.lemmas.List.{take-append-drop, take_more}
 use Rattle.std.proofs.lemmas.List.Concat.{flat_map-append}
-use Rattle.store_traits.proofs.FaultLemmas.{rose_since}
+use Rattle.store_traits.specs.Faults.{Rose}
+use Rattle.byte_io.specs.declared.sink.Sink as sink_trait
+use Rattle.byte_io.specs.Seen.{SinkSeen, sink_seen}
+use Rattle.byte_io.specs.Sink.{GainsPrefix}
+use Rattle.byte_io.proofs.WriteLemmas.{prefix_of_first, prefix_of_second}
 use Rattle.prefs_model.specs.declared.pref_pair.PrefPair.{PrefPair}
 use Rattle.prefs_text.specs.MapText.{pair_text}
 use Rattle.prefs_tool.specs.Outcome.{shown}
 use Rattle.prefs_tool.specs.Status.{line}
-use Rattle.prefs_tool.specs.Writing.{GainsFront, WritesPiece, WritesText}
-use Rattle.prefs_tool.proofs.WriteLemmas.{front_of_first, front_of_second}
+use Rattle.prefs_tool.specs.Writing.{WritesPiece, WritesText}
 use Rattle.prefs_tool.specs.declared.tool_error.ToolError.{ToolError}
 use Rattle.prefs_tool.specs.declared.tool_error.ToolError.TheVariants.{WriteFault, NoMemory}
 
@@ -34,15 +37,14 @@ piece_written lines piece new held gained more empty is so_far = record {
   gained_is = is ∙ ap (λ (g : List ℕ). g ++ piece) so_far.gained_is ∙ append_assoc held so_far.written piece;
 }
 
--- what is written so far is a front of all lines
-pub front_so_far : (lines piece held gained : List ℕ) → AreWritten lines piece held gained → GainsFront lines held gained
-front_so_far lines piece held gained so_far = record { front = so_far.written; rest = piece; parts = so_far.parts; gained = so_far.gained_is }
+-- what is written so far is a prefix of all lines
+pub prefix_so_far : (lines piece held gained : List ℕ) → AreWritten lines piece held gained → GainsPrefix lines held gained
+prefix_so_far lines piece held gained so_far = record { prefix = so_far.written; rest = piece; parts = so_far.parts; gained = so_far.gained_is }
 
--- and so it is with a front of the piece
-front_of_piece : (lines piece held gained more : List ℕ) → AreWritten lines piece held gained → GainsFront piece gained more → GainsFront lines held more
-front_of_piece lines piece held gained more so_far gains =
-    let both = front_of_second so_far.written piece held gained more so_far.gained_is gains in
-    record { front = both.front; rest = both.rest; parts = so_far.parts ∙ both.parts; gained = both.gained }
+-- and so it is with a prefix of the piece
+prefix_of_piece : (lines piece held gained more : List ℕ) → AreWritten lines piece held gained → GainsPrefix piece gained more → GainsPrefix lines held more
+prefix_of_piece lines piece held gained more so_far gains =
+    subst (λ (l : List ℕ). GainsPrefix l held more) (sym so_far.parts) (prefix_of_second so_far.written piece held gained more so_far.gained_is gains)
 
 abbrev pair_line : PrefPair → List ℕ
 pair_line pair = line (pair_text pair)
@@ -64,23 +66,34 @@ line_gathered pairs i pair piece new held gained is within pushed so_far =
 shown_parts : (pairs : List PrefPair) (i : ℕ) → shown pairs ≡ shown (take i pairs) ++ shown (drop i pairs)
 shown_parts pairs i = ap shown (sym (take-append-drop i pairs)) ∙ flat_map-append pair_line (take i pairs) (drop i pairs)
 
-pub front_of_all : (pairs : List PrefPair) (i : ℕ) (held gained : List ℕ) → GainsFront (shown (take i pairs)) held gained → GainsFront (shown pairs) held gained
-front_of_all pairs i held gained gains =
-    let both = front_of_first (shown (take i pairs)) (shown (drop i pairs)) held gained gains in
-    record { front = both.front; rest = both.rest; parts = shown_parts pairs i ∙ both.parts; gained = both.gained }
+pub prefix_of_all : (pairs : List PrefPair) (i : ℕ) (held gained : List ℕ) → GainsPrefix (shown (take i pairs)) held gained → GainsPrefix (shown pairs) held gained
+prefix_of_all pairs i held gained gains =
+    subst (λ (l : List ℕ). GainsPrefix l held gained) (sym (shown_parts pairs i)) (prefix_of_first (shown (take i pairs)) (shown (drop i pairs)) held gained gains)
 
--- the piece that is left is written last
-pub last_piece : {T : Type 0} (told : Bool) (lines piece held gained more : List ℕ) (before since now : ℕ) (result : Result T ToolError)
-    → before ≤ since → (IsTrue told → AreWritten lines piece held gained) → WritesPiece told piece gained since result more now → WritesText told lines held before result more now
-last_piece told lines piece held gained more before since now (Ok done) later so_far writes =
-    (omega (arith, writes.0), λ is_told. let w = so_far is_told in writes.1 is_told ∙ ap (λ (g : List ℕ). g ++ piece) w.gained_is ∙ append_assoc held w.written piece ∙ ap (λ (l : List ℕ). held ++ l) (sym w.parts))
-last_piece told lines piece held gained more before since now (Err WriteFault) later so_far writes =
-    (rose_since before since now later writes.0, λ is_told. front_of_piece lines piece held gained more (so_far is_told) (writes.1 is_told))
-last_piece told lines piece held gained more before since now (Err e) later so_far writes = absurd writes
+module _ {K : Type 0} (k : sink_trait.Ghosts K) where
+  abbrev seen : K → SinkSeen
+  seen sink = sink_seen k sink
 
--- lines of some pairs that stopped are lines of all pairs that stopped
-pub stopped_inside : (T : Type 0) (told : Bool) (pairs : List PrefPair) (i : ℕ) (held gained : List ℕ) (before now : ℕ) (e : ToolError)
-    → WritesText {T = T} told (shown (take i pairs)) held before (Err e) gained now → WritesText {T = T} told (shown pairs) held before (Err e) gained now
-stopped_inside T told pairs i held gained before now WriteFault writes = (writes.0, λ is_told. front_of_all pairs i held gained (writes.1 is_told))
-stopped_inside T told pairs i held gained before now NoMemory writes = (writes.0, λ is_told. front_of_all pairs i held gained (writes.1 is_told))
-stopped_inside T told pairs i held gained before now e writes = absurd writes
+  -- the piece that is left is written last
+  pub last_piece : {T : Type 0} (lines piece : List ℕ) (old middle new : K) (result : Result T ToolError) → k.count middle ≡ k.count old
+      → (IsTrue k.told → AreWritten lines piece (k.held old) (k.held middle)) → WritesPiece piece (seen middle) result (seen new) → WritesText lines (seen old) result (seen new)
+  last_piece lines piece old middle new (Ok done) sound so_far writes = record {
+    sound = writes.sound ∙ sound;
+    gained = λ told.
+        let w = so_far told in
+        writes.gained told ∙ ap (λ (g : List ℕ). g ++ piece) w.gained_is ∙ append_assoc (k.held old) w.written piece ∙ ap (λ (l : List ℕ). k.held old ++ l) (sym w.parts);
+  }
+  last_piece lines piece old middle new (Err WriteFault) sound so_far writes = record {
+    rose = subst (λ (count : ℕ). Rose count (k.count new)) sound writes.rose;
+    gained = λ told. prefix_of_piece lines piece (k.held old) (k.held middle) (k.held new) (so_far told) (writes.gained told);
+  }
+  last_piece lines piece old middle new (Err e) sound so_far writes = absurd writes
+
+  -- lines of some pairs that stopped are lines of all pairs that stopped
+  pub stopped_inside : (T : Type 0) (pairs : List PrefPair) (i : ℕ) (old new : K) (e : ToolError)
+      → WritesText {T = T} (shown (take i pairs)) (seen old) (Err e) (seen new) → WritesText {T = T} (shown pairs) (seen old) (Err e) (seen new)
+  stopped_inside T pairs i old new WriteFault writes =
+      record { rose = writes.rose; gained = λ told. prefix_of_all pairs i (k.held old) (k.held new) (writes.gained told) }
+  stopped_inside T pairs i old new NoMemory writes =
+      record { sound = writes.sound; gained = λ told. prefix_of_all pairs i (k.held old) (k.held new) (writes.gained told) }
+  stopped_inside T pairs i old new e writes = absurd writes

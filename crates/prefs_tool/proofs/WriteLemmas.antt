@@ -1,45 +1,48 @@
 -- Pieces that are written one after the other.
-use Rattle.std.proofs.Common.{◌≡◌, ◌∙◌, ◌≤◌, ◌++◌, ℕ, Bool, IsTrue, Result, Ok, Err, List, take, drop, sym, ap, append_assoc, arith}
-use Rattle.std.proofs.lemmas.List.{take-append-drop}
-use Rattle.store_traits.proofs.FaultLemmas.{rose_since}
-use Rattle.prefs_tool.specs.Writing.{GainsFront, WritesPiece}
+use Rattle.std.proofs.Common.{◌≡◌, ◌∙◌, ◌++◌, ℕ, Result, Ok, Err, List, ap, subst, append_assoc}
+use Rattle.store_traits.specs.Faults.{Rose}
+use Rattle.byte_io.specs.declared.sink.Sink as sink_trait
+use Rattle.byte_io.specs.Seen.{SinkSeen, sink_seen}
+use Rattle.byte_io.proofs.WriteLemmas.{prefix_of_first, prefix_of_second}
+use Rattle.prefs_tool.specs.Writing.{BreaksOff, Gains, WritesPiece, WritesText}
 use Rattle.prefs_tool.specs.declared.tool_error.ToolError.{ToolError}
 use Rattle.prefs_tool.specs.declared.tool_error.ToolError.TheVariants.{WriteFault}
 
--- what was taken of a piece is a front of it
-pub front_taken : (piece old new : List ℕ) (taken : ℕ) → new ≡ old ++ take taken piece → GainsFront piece old new
-front_taken piece old new taken gained = record { front = take taken piece; rest = drop taken piece; parts = sym (take-append-drop taken piece); gained = gained }
+-- what is written at once needs no memory
+pub as_text : {T : Type 0} (text : List ℕ) (old new : SinkSeen) (result : Result T ToolError) → WritesPiece text old result new → WritesText text old result new
+as_text text old new (Ok done) writes = writes
+as_text text old new (Err WriteFault) writes = writes
+as_text text old new (Err e) writes = absurd writes
 
--- a front of the first piece is one of both
-pub front_of_first : (first second old new : List ℕ) → GainsFront first old new → GainsFront (first ++ second) old new
-front_of_first first second old new gains = record {
-  front = gains.front;
-  rest = gains.rest ++ second;
-  parts = ap (λ (p : List ℕ). p ++ second) gains.parts ∙ append_assoc gains.front gains.rest second;
-  gained = gains.gained;
-}
+module _ {K : Type 0} (k : sink_trait.Ghosts K) where
+  abbrev seen : K → SinkSeen
+  seen sink = sink_seen k sink
 
--- a front of the second piece behind the whole first one
-pub front_of_second : (first second old middle new : List ℕ) → middle ≡ old ++ first → GainsFront second middle new → GainsFront (first ++ second) old new
-front_of_second first second old middle new whole gains = record {
-  front = first ++ gains.front;
-  rest = gains.rest;
-  parts = ap (λ (p : List ℕ). first ++ p) gains.parts ∙ sym (append_assoc first gains.front gains.rest);
-  gained = gains.gained ∙ ap (λ (m : List ℕ). m ++ gains.front) whole ∙ append_assoc old first gains.front;
-}
+  -- a second text behind one that was written
+  pub gains_both : (first second : List ℕ) (old middle new : K) → Gains first (seen old) (seen middle) → Gains second (seen middle) (seen new)
+      → Gains (first ++ second) (seen old) (seen new)
+  gains_both first second old middle new one two = record {
+    sound = two.sound ∙ one.sound;
+    gained = λ told. two.gained told ∙ ap (λ (m : List ℕ). m ++ second) (one.gained told) ∙ append_assoc (k.held old) first second;
+  }
 
--- the second piece, once the first one is written
-pub piece_behind : {T : Type 0} (told : Bool) (first second old middle new : List ℕ) (before since now : ℕ) (result : Result T ToolError)
-    → before ≤ since → (IsTrue told → middle ≡ old ++ first) → WritesPiece told second middle since result new now
-    → WritesPiece told (first ++ second) old before result new now
-piece_behind told first second old middle new before since now (Ok done) later whole writes =
-    (omega (arith, writes.0), λ is_told. writes.1 is_told ∙ ap (λ (m : List ℕ). m ++ second) (whole is_told) ∙ append_assoc old first second)
-piece_behind told first second old middle new before since now (Err WriteFault) later whole writes =
-    (rose_since before since now later writes.0, λ is_told. front_of_second first second old middle new (whole is_told) (writes.1 is_told))
-piece_behind told first second old middle new before since now (Err e) later whole writes = absurd writes
+  -- and one that broke off
+  pub breaks_behind : (first second : List ℕ) (old middle new : K) → Gains first (seen old) (seen middle) → BreaksOff second (seen middle) (seen new)
+      → BreaksOff (first ++ second) (seen old) (seen new)
+  breaks_behind first second old middle new one two = record {
+    rose = subst (λ (count : ℕ). Rose count (k.count new)) one.sound two.rose;
+    gained = λ told. prefix_of_second first second (k.held old) (k.held middle) (k.held new) (one.gained told) (two.gained told);
+  }
 
--- a first piece that failed stops both
-pub piece_stops : (T : Type 0) (told : Bool) (first second old new : List ℕ) (before now : ℕ) (e : ToolError)
-    → WritesPiece {T = T} told first old before (Err e) new now → WritesPiece {T = T} told (first ++ second) old before (Err e) new now
-piece_stops T told first second old new before now WriteFault writes = (writes.0, λ is_told. front_of_first first second old new (writes.1 is_told))
-piece_stops T told first second old new before now e writes = absurd writes
+  pub piece_behind : {T : Type 0} (first second : List ℕ) (old middle new : K) (result : Result T ToolError)
+      → Gains first (seen old) (seen middle) → WritesPiece second (seen middle) result (seen new) → WritesPiece (first ++ second) (seen old) result (seen new)
+  piece_behind first second old middle new (Ok done) one two = gains_both first second old middle new one two
+  piece_behind first second old middle new (Err WriteFault) one two = breaks_behind first second old middle new one two
+  piece_behind first second old middle new (Err e) one two = absurd two
+
+  -- a first piece that broke off stops both
+  pub piece_stops : (T : Type 0) (first second : List ℕ) (old new : K) (e : ToolError)
+      → WritesPiece {T = T} first (seen old) (Err e) (seen new) → WritesPiece {T = T} (first ++ second) (seen old) (Err e) (seen new)
+  piece_stops T first second old new WriteFault writes =
+      record { rose = writes.rose; gained = λ told. prefix_of_first first second (k.held old) (k.held new) (writes.gained told) }
+  piece_stops T first second old new e writes = absurd writes

@@ -1,6 +1,7 @@
 pub mod Changing
 pub mod Complete
 pub mod Ending
+pub mod Folder
 pub mod Outcome
 pub mod Reading
 pub mod Replacing

@@ -2,10 +2,6 @@
 use Rattle.std.specs.Prelude.{ℕ, ◌≡◌, ◌<◌, ◌≤◌, Bool, IsTrue, List, [], length, Option, Some, None, Result, Ok, Err}
 use Rattle.prefs_model.specs.declared.pref_pair.PrefPair.{PrefPair}
 use Rattle.prefs_proto.specs.Reads.{Reads}
-use Rattle.folder_disk.specs.declared.call.FolderCall.TheVariants.{ReadMain}
-use Rattle.folder_disk.specs.Due.{fails}
-use Rattle.folder_disk.specs.Tally.{Tally}
-use Rattle.store_traits.specs.Faults.{Rose}
 use Rattle.prefs_tool.specs.declared.tool_error.ToolError.{ToolError}
 use Rattle.prefs_tool.specs.declared.tool_error.ToolError.TheVariants.{Storage, Corrupt, TooLong, NoMemory}
 
@@ -28,17 +24,17 @@ abbrev pub IsTooLong : Option (List ℕ) → ℕ → Type 0
 IsTooLong None len = ⊥
 IsTooLong (Some bytes) len = (length bytes ≡ len) × (file_limit < len)
 
--- why no map was read: a fault of the read, which was due, or what main is
-abbrev pub StopsReading : Bool → Option (List ℕ) → Tally → Tally → ToolError → Type 0
-StopsReading told main before now Storage = Rose before.count now.count × (IsTrue told → IsTrue (fails ReadMain before.due))
-StopsReading told main before now Corrupt = IsTrue told → IsCorrupt main
-StopsReading told main before now (TooLong len) = IsTrue told → IsTooLong main len
-StopsReading told main before now NoMemory = Unit {0}
-StopsReading told main before now _ = ⊥
+-- Why no map was read: a fault of the folder, of which its count and what is due tell; what main is; or want of memory.
+abbrev pub StopsReading : Bool → Option (List ℕ) → ToolError → Type 0
+StopsReading told main Storage = Unit {0}
+StopsReading told main Corrupt = IsTrue told → IsCorrupt main
+StopsReading told main (TooLong len) = IsTrue told → IsTooLong main len
+StopsReading told main NoMemory = Unit {0}
+StopsReading told main _ = ⊥
 
-abbrev pub ReadsMap : Bool → Option (List ℕ) → Tally → Tally → Result (List PrefPair) ToolError → Type 0
-ReadsMap told main before now (Ok pairs) = IsTrue told → ReadsAs main pairs
-ReadsMap told main before now (Err e) = StopsReading told main before now e
+abbrev pub ReadsMap : Bool → Option (List ℕ) → Result (List PrefPair) ToolError → Type 0
+ReadsMap told main (Ok pairs) = IsTrue told → ReadsAs main pairs
+ReadsMap told main (Err e) = StopsReading told main e
 
 -- the same of the bytes of main
 abbrev pub ReadsText : List ℕ → Result (List PrefPair) ToolError → Type 0

@@ -1,6 +1,8 @@
 -- What `replay` answers: which script the source gave, what is printed of its run, or why there is none.
-use Rattle.std.specs.Prelude.{ℕ, ◌≡◌, ◌⊎◌, ◌++◌, Bool, List, [], Result, Ok, Err}
+use Rattle.std.specs.Prelude.{ℕ, ◌≡◌, ◌⊎◌, ◌++◌, Bool, true, false, List, [], Result, Ok, Err}
+use Rattle.store_traits.specs.Faults.{Counts}
 use Rattle.byte_io.specs.ReadAll.{ReadsAll}
+use Rattle.byte_io.specs.Seen.{SinkSeen, SourceSeen}
 use Rattle.byte_io.specs.declared.read_all_error.ReadAllError.TheVariants as reading
 use Rattle.script_lang.specs.Meaning.{Faulty, Means}
 use Rattle.script_lang.specs.TranscriptText as transcript
@@ -25,28 +27,33 @@ script_limit = 67108864
 -- ---- the script that the source gives
 
 -- The source was read to its end, and its bytes are this script. Where it is not told, some bytes are.
-pub record GivesScript (told : Bool) (old : List ℕ) (before : ℕ) (script : Script) (new : List ℕ) (now : ℕ) : Type 0 where
+pub record GivesScript (old : SourceSeen) (script : Script) (new : SourceSeen) : Type 0 where
   pub bytes : List ℕ
-  pub read : ReadsAll told script_limit old before (Ok bytes) new now
+  pub read : ReadsAll script_limit old (Ok bytes) new
   pub means : Means mode.Replay bytes script
 
 -- the source was read to its end, and its bytes are none: of their first faulty line this is the least fault
-pub record GivesNone (told : Bool) (old : List ℕ) (before number : ℕ) (fault : ScriptFault) (new : List ℕ) (now : ℕ) : Type 0 where
+pub record GivesNone (old : SourceSeen) (number : ℕ) (fault : ScriptFault) (new : SourceSeen) : Type 0 where
   pub bytes : List ℕ
-  pub read : ReadsAll told script_limit old before (Ok bytes) new now
+  pub read : ReadsAll script_limit old (Ok bytes) new
   pub faulty : Faulty mode.Replay bytes number fault
 
 -- Why there is no script: its bytes are none, or are too many; a read failed; or memory was wanting.
-abbrev pub StopsScript : Bool → List ℕ → ℕ → ToolError → List ℕ → ℕ → Type 0
-StopsScript told old before (error.Script number fault) new now = GivesNone told old before number fault new now
-StopsScript told old before error.ScriptTooLong new now = ReadsAll told script_limit old before (Err (reading.TooLong script_limit)) new now
-StopsScript told old before error.ReadFault new now = ReadsAll told script_limit old before (Err reading.ReadFault) new now
-StopsScript told old before error.NoMemory new now = ReadsAll told script_limit old before (Err reading.NoMemory) new now
-StopsScript told old before _ new now = ⊥
+abbrev pub StopsScript : SourceSeen → ToolError → SourceSeen → Type 0
+StopsScript old (error.Script number fault) new = GivesNone old number fault new
+StopsScript old error.ScriptTooLong new = ReadsAll script_limit old (Err (reading.TooLong script_limit)) new
+StopsScript old error.ReadFault new = ReadsAll script_limit old (Err reading.ReadFault) new
+StopsScript old error.NoMemory new = ReadsAll script_limit old (Err reading.NoMemory) new
+StopsScript old _ new = ⊥
 
-abbrev pub ReadsScript : Bool → List ℕ → ℕ → Result Script ToolError → List ℕ → ℕ → Type 0
-ReadsScript told old before (Ok script) new now = GivesScript told old before script new now
-ReadsScript told old before (Err e) new now = StopsScript told old before e new now
+abbrev pub ReadsScript : SourceSeen → Result Script ToolError → SourceSeen → Type 0
+ReadsScript old (Ok script) new = GivesScript old script new
+ReadsScript old (Err e) new = StopsScript old e new
+
+-- whether the source failed
+abbrev pub is_read_fault : {T : Type 0} → Result T ToolError → Bool
+is_read_fault (Err error.ReadFault) = true
+is_read_fault _ = false
 
 -- the same of the bytes
 abbrev pub ReadsBytes : List ℕ → Result Script ToolError → Type 0
@@ -63,40 +70,43 @@ refusal_of number other = error.Script number other
 -- ---- what is printed
 
 -- the text of what the script comes to
-pub record PrintsRun (told : Bool) (old : List ℕ) (before : ℕ) (text new : List ℕ) (now : ℕ) : Type 0 where
+pub record PrintsRun (old : SourceSeen) (text : List ℕ) (new : SourceSeen) : Type 0 where
   pub script : Script
-  pub given : GivesScript told old before script new now
+  pub given : GivesScript old script new
   pub run : Transcript
   pub replays : ∥ Replays prefs_basis script run ∥₁
   pub text_is : text ≡ transcript.text run
 
--- what was printed before memory was wanting: nothing, or a front of that text
-abbrev pub PrintsFrontOfRun : Bool → List ℕ → ℕ → List ℕ → List ℕ → ℕ → Type 0
-PrintsFrontOfRun told old before text new now =
-    ((text ≡ []) × StopsScript told old before error.NoMemory new now)
-    ⊎ ((whole : List ℕ) × (rest : List ℕ) × PrintsRun told old before whole new now × (whole ≡ text ++ rest))
+-- what was printed before memory was wanting: nothing, or a prefix of that text
+abbrev pub PrintsPrefixOfRun : SourceSeen → List ℕ → SourceSeen → Type 0
+PrintsPrefixOfRun old text new =
+    ((text ≡ []) × StopsScript old error.NoMemory new)
+    ⊎ ((whole : List ℕ) × (rest : List ℕ) × PrintsRun old whole new × (whole ≡ text ++ rest))
 
 -- the answer, with the text that is to be written of it
-abbrev pub AnswersScript : Bool → List ℕ → ℕ → Result (Unit {0}) ToolError → List ℕ → List ℕ → ℕ → Type 0
-AnswersScript told old before (Ok done) text new now = PrintsRun told old before text new now
-AnswersScript told old before (Err error.NoMemory) text new now = PrintsFrontOfRun told old before text new now
-AnswersScript told old before (Err e) text new now = (text ≡ line_of e) × StopsScript told old before e new now
+abbrev pub DoesScript : SourceSeen → Result (Unit {0}) ToolError → List ℕ → SourceSeen → Type 0
+DoesScript old (Ok done) text new = PrintsRun old text new
+DoesScript old (Err error.NoMemory) text new = PrintsPrefixOfRun old text new
+DoesScript old (Err e) text new = (text ≡ line_of e) × StopsScript old e new
+
+-- the same, and the source's count of faults
+pub record AnswersScript (old : SourceSeen) (answer : Result (Unit {0}) ToolError) (text : List ℕ) (new : SourceSeen) : Type 0 where
+  pub does : DoesScript old answer text new
+  pub faults : Counts (is_read_fault answer) old.count new.count
 
 -- how the body of `replay` ends
-abbrev pub EndsReplay : {T : Type 0} → Bool → Bool → List ℕ → ℕ → List ℕ → ℕ → Result T ToolError → List ℕ → ℕ → List ℕ → ℕ → Type 0
-EndsReplay source_told sink_told old before held faults result new now gained faults_now =
-    EndsWith (λ answer text. AnswersScript source_told old before answer text new now) sink_told result held faults gained faults_now
+abbrev pub EndsReplay : {T : Type 0} → SourceSeen → SinkSeen → Result T ToolError → SourceSeen → SinkSeen → Type 0
+EndsReplay source sink result source_after sink_after = EndsWith (λ answer text. AnswersScript source answer text source_after) sink result sink_after
 
 -- how `replay` ends
-abbrev pub Replayed : Bool → Bool → List ℕ → ℕ → List ℕ → ℕ → Status → List ℕ → ℕ → List ℕ → ℕ → Type 0
-Replayed source_told sink_told old before held faults status new now gained faults_now =
-    Tells (λ answer text. AnswersScript source_told old before answer text new now) sink_told status held faults gained faults_now
+abbrev pub Replayed : SourceSeen → SinkSeen → Status → SourceSeen → SinkSeen → Type 0
+Replayed source sink status source_after sink_after = Tells (λ answer text. AnswersScript source answer text source_after) status sink sink_after
 
 -- The whole of a told source was a script, and a told sink gained the text of its run.
-pub record Printed (old new held gained : List ℕ) : Type 0 where
+pub record Printed (source : SourceSeen) (sink : SinkSeen) (source_after : SourceSeen) (sink_after : SinkSeen) : Type 0 where
   pub script : Script
-  pub means : Means mode.Replay old script
+  pub means : Means mode.Replay source.left script
   pub run : Transcript
   pub replays : ∥ Replays prefs_basis script run ∥₁
-  pub read : new ≡ []
-  pub printed : gained ≡ held ++ transcript.text run
+  pub read : source_after.left ≡ []
+  pub printed : sink_after.held ≡ sink.held ++ transcript.text run

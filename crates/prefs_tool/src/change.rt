@@ -1,8 +1,11 @@
 ghost use Rattle.std.specs.Prelude.{◌≡◌, ◌≢◌, ◌∷◌, [], ℕ, IfOk, IfErr};
 ghost use Rattle.store_traits.specs.declared.applied.Applied.TheVariants.{Changed, Refused};
+ghost use Rattle.store_traits.specs.Faults.{Counts};
+ghost use Rattle.folder_disk.specs.Seen.{folder_seen};
 ghost use Rattle.prefs_edit.specs.After.{after_steps};
 ghost use Rattle.prefs_tool.specs.declared.tool_error.ToolError.TheVariants.{NoMemory};
 ghost use Rattle.prefs_tool.specs.Changing.{ChangesMain, IsLight, NeverRefuses, NoEdit};
+ghost use Rattle.prefs_tool.specs.Folder.{is_storage};
 ghost use Rattle.prefs_tool.specs.Replacing.{StoresMap, SyncsMain};
 
 use crate::read::{FILE_LIMIT, read_map};
@@ -23,7 +26,8 @@ pub(crate) fn change<F: Folder>(
     step: EditStep,
 ) -> Result<(), ToolError>
     requires { NeverRefuses step }
-    ensures { ChangesMain F.told step (F.contents folder.old) (F.tally folder.old) result (F.contents folder.new) (F.tally folder.new) }
+    ensures outcome { ChangesMain step (folder_seen F.Folder folder.old) result (folder_seen F.Folder folder.new) }
+    ensures faults { Counts (is_storage result) (F.tally folder.old).count (F.tally folder.new).count }
 {
     let edit = edit_of(alloc, step)?;
     let old = read_map(alloc, folder)?;
@@ -60,7 +64,8 @@ fn edited(alloc: Global, edit: &Edit, old: &PrefMap) -> Result<PrefMap, ToolErro
 
 /// Brings what main is to the disk.
 fn sync<F: Folder>(folder: &mut F) -> Result<(), ToolError>
-    ensures { SyncsMain F.told (F.contents folder.old) (F.tally folder.old) result (F.contents folder.new) (F.tally folder.new) }
+    ensures outcome { SyncsMain (folder_seen F.Folder folder.old) result (folder_seen F.Folder folder.new) }
+    ensures faults { Counts (is_storage result) (F.tally folder.old).count (F.tally folder.new).count }
 {
     folder.sync_folder()?;
     Ok(())
@@ -68,7 +73,8 @@ fn sync<F: Folder>(folder: &mut F) -> Result<(), ToolError>
 
 /// Makes the text of the map main, if it is no longer than a file may be.
 fn store<F: Folder>(alloc: Global, folder: &mut F, map: &PrefMap) -> Result<(), ToolError>
-    ensures { StoresMap F.told map.now (F.contents folder.old) (F.tally folder.old) result (F.contents folder.new) (F.tally folder.new) }
+    ensures outcome { StoresMap map.now (folder_seen F.Folder folder.old) result (folder_seen F.Folder folder.new) }
+    ensures faults { Counts (is_storage result) (F.tally folder.old).count (F.tally folder.new).count }
 {
     let len = PrefsCodec.encoded_len(map);
     if len > FILE_LIMIT {

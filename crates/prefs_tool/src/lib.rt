@@ -20,7 +20,8 @@ mod tool_error;
 mod write;
 
 pub use laws::{
-    other_bytes_are_refused, replay_prints_the_run, scripts_are_replayed, sound_commands_are_done,
+    faults_have_their_status, other_bytes_are_refused, replay_faults_have_their_status,
+    replay_prints_the_run, scripts_are_replayed, scripts_have_one_print, sound_commands_are_done,
 };
 pub use status::Status;
 pub use tool::run_tool;

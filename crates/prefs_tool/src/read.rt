@@ -1,4 +1,7 @@
-ghost use Rattle.std.specs.Prelude.{◌≡◌, ◌≤◌, IsTrue};
+ghost use Rattle.std.specs.Prelude.{IsTrue};
+ghost use Rattle.store_traits.specs.Faults.{Counts};
+ghost use Rattle.folder_disk.specs.Seen.{folder_seen};
+ghost use Rattle.prefs_tool.specs.Folder.{OnlyReads, is_storage};
 ghost use Rattle.prefs_tool.specs.Reading.{ReadsMap, ReadsText};
 
 use crate::tool_error::ToolError;
@@ -13,9 +16,9 @@ pub(crate) const FILE_LIMIT: u64 = 1048576;
 
 /// The map that main reads as; an absent main reads as the empty map.
 pub(crate) fn read_map<F: Folder>(alloc: Global, folder: &mut F) -> Result<PrefMap, ToolError>
-    ensures read { ReadsMap F.told (F.contents folder.old).main (F.tally folder.old) (F.tally folder.new) result }
-    ensures contents { IsTrue F.told → F.contents folder.new ≡ F.contents folder.old }
-    ensures later { (F.tally folder.old).count ≤ (F.tally folder.new).count }
+    ensures read { ReadsMap F.told (F.contents folder.old).main result }
+    ensures only { IsTrue F.told → OnlyReads (is_storage result) (folder_seen F.Folder folder.old) (folder_seen F.Folder folder.new) }
+    ensures faults { Counts (is_storage result) (F.tally folder.old).count (F.tally folder.new).count }
 {
     match folder.read_main(alloc, FILE_LIMIT) {
         Ok(MainRead::Absent) => Ok(PrefMap::new(alloc)),

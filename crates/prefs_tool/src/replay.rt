@@ -1,6 +1,8 @@
 ghost use Rattle.std.specs.Prelude.{◌≡◌};
+ghost use Rattle.store_traits.specs.Faults.{Counts};
+ghost use Rattle.byte_io.specs.Seen.{sink_seen, source_seen};
 ghost use Rattle.script_lang.specs.TranscriptText.{HasNames, text};
-ghost use Rattle.prefs_tool.specs.Replaying.{EndsReplay, ReadsBytes, ReadsScript, refusal_of};
+ghost use Rattle.prefs_tool.specs.Replaying.{EndsReplay, ReadsBytes, ReadsScript, is_read_fault, refusal_of};
 ghost use Rattle.prefs_tool.specs.Writing.{WritesText};
 
 use crate::tool_error::ToolError;
@@ -21,7 +23,7 @@ pub(crate) fn print_run<S: Source, K: Sink>(
     source: &mut S,
     sink: &mut K,
 ) -> Result<(), ToolError>
-    ensures { EndsReplay S.told K.told (S.left source.old) (S.count source.old) (K.held sink.old) (K.count sink.old) result (S.left source.new) (S.count source.new) (K.held sink.new) (K.count sink.new) }
+    ensures { EndsReplay (source_seen S.Source source.old) (sink_seen K.Sink sink.old) result (source_seen S.Source source.new) (sink_seen K.Sink sink.new) }
 {
     let script = read_script(alloc, source)?;
     let transcript = replay(alloc, &script)?;
@@ -30,7 +32,8 @@ pub(crate) fn print_run<S: Source, K: Sink>(
 
 /// The script that the source gives, which is read to its end.
 fn read_script<S: Source>(alloc: Global, source: &mut S) -> Result<Script, ToolError>
-    ensures { ReadsScript S.told (S.left source.old) (S.count source.old) result (S.left source.new) (S.count source.new) }
+    ensures script { ReadsScript (source_seen S.Source source.old) result (source_seen S.Source source.new) }
+    ensures faults { Counts (is_read_fault result) (S.count source.old) (S.count source.new) }
 {
     match read_all(alloc, source, SCRIPT_LIMIT) {
         Ok(bytes) => script_of(alloc, bytes.as_slice()),
@@ -70,7 +73,7 @@ fn write_text<K: Sink>(
     transcript: &Transcript,
 ) -> Result<(), ToolError>
     requires { HasNames transcript.now }
-    ensures { WritesText K.told (text transcript.now) (K.held sink.old) (K.count sink.old) result (K.held sink.new) (K.count sink.new) }
+    ensures { WritesText (text transcript.now) (sink_seen K.Sink sink.old) result (sink_seen K.Sink sink.new) }
 {
     match write_transcript(alloc, sink, transcript) {
         Ok(()) => Ok(()),

@@ -1,4 +1,6 @@
 ghost use Rattle.std.specs.Prelude.{◌≡◌, ◌++◌, string_bytes, OnOk};
+ghost use Rattle.byte_io.specs.Seen.{sink_seen};
+ghost use Rattle.folder_disk.specs.Seen.{folder_seen};
 ghost use Rattle.prefs_text.specs.MapText.{pair_text};
 ghost use Rattle.command_words.specs.declared.command.Command.TheVariants.{Show};
 ghost use Rattle.prefs_tool.specs.Ending.{Ends};
@@ -24,7 +26,7 @@ pub(crate) fn show<K: Sink, F: Folder>(
     sink: &mut K,
     folder: &mut F,
 ) -> Result<(), ToolError>
-    ensures { Ends F.told K.told Show (F.contents folder.old) (F.tally folder.old) (K.held sink.old) (K.count sink.old) result (F.contents folder.new) (F.tally folder.new) (K.held sink.new) (K.count sink.new) }
+    ensures { Ends Show (folder_seen F.Folder folder.old) (sink_seen K.Sink sink.old) result (folder_seen F.Folder folder.new) (sink_seen K.Sink sink.new) }
 {
     let map = read_map(alloc, folder)?;
     write_pairs(alloc, sink, map.pairs())
@@ -32,7 +34,7 @@ pub(crate) fn show<K: Sink, F: Folder>(
 
 /// Writes the lines of the pairs, many at once.
 fn write_pairs<K: Sink>(alloc: Global, sink: &mut K, pairs: &[PrefPair]) -> Result<(), ToolError>
-    ensures { WritesText K.told (shown pairs.now) (K.held sink.old) (K.count sink.old) result (K.held sink.new) (K.count sink.new) }
+    ensures { WritesText (shown pairs.now) (sink_seen K.Sink sink.old) result (sink_seen K.Sink sink.new) }
 {
     let mut piece = String::new(alloc);
     for pair in pairs {

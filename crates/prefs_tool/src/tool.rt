@@ -1,7 +1,9 @@
 ghost use Rattle.std.specs.Prelude.{◌≡◌, ◌⊎◌, Err};
+ghost use Rattle.byte_io.specs.Seen.{sink_seen, source_seen};
 ghost use Rattle.command_words.specs.Command.{Asks, AsksNothing, texts};
 ghost use Rattle.command_words.specs.declared.command.Command.{Command};
 ghost use Rattle.command_words.specs.declared.command.Command.TheVariants.{Replay};
+ghost use Rattle.folder_disk.specs.Seen.{folder_seen};
 ghost use Rattle.prefs_tool.specs.Ending.{Ends};
 ghost use Rattle.prefs_tool.specs.Outcome.{Outcome, ReadsNoScript, RefusesWords, Reports};
 ghost use Rattle.prefs_tool.specs.Replaying.{EndsReplay, Replayed};
@@ -32,16 +34,14 @@ pub fn run_tool<S: Source, K: Sink, F: Folder>(
 ) -> Status
     // Words that are no command are refused.
     ensures words { result ≡ Status.Words → AsksNothing (texts words.now) }
-    ensures refused { AsksNothing (texts words.now)
-        → RefusesWords K.told result (K.held sink.old) (K.count sink.old) (K.held sink.new) (K.count sink.new) }
-    // What the words ask for is done, or the status says why not, what is told, and what the folder holds.
+    ensures refused { AsksNothing (texts words.now) → RefusesWords result (sink_seen K.Sink sink.old) (sink_seen K.Sink sink.new) }
+    // What the words ask for is done, or the status says why not: what is told, which calls of the folder
+    // were made, what it holds then, and which counts of faults rose.
     ensures outcome { (command : Command) → Asks (texts words.now) command → ReadsNoScript command
-        → Outcome F.told K.told command (F.contents folder.old) (F.tally folder.old) (K.held sink.old) (K.count sink.old)
-        result (F.contents folder.new) (F.tally folder.new) (K.held sink.new) (K.count sink.new) }
+        → Outcome command (folder_seen F.Folder folder.old) (sink_seen K.Sink sink.old) result (folder_seen F.Folder folder.new) (sink_seen K.Sink sink.new) }
     // The run of the script is told, or the status says why not, and what was read.
     ensures replay { Asks (texts words.now) Replay
-        → Replayed S.told K.told (S.left source.old) (S.count source.old) (K.held sink.old) (K.count sink.old)
-        result (S.left source.new) (S.count source.new) (K.held sink.new) (K.count sink.new) }
+        → Replayed (source_seen S.Source source.old) (sink_seen K.Sink sink.old) result (source_seen S.Source source.new) (sink_seen K.Sink sink.new) }
     // Only `replay` reads of the source, and neither it nor words that are no command touch the folder.
     ensures source { ¬ Asks (texts words.now) Replay → source.new ≡ source.old }
     ensures folder { AsksNothing (texts words.now) ⊎ Asks (texts words.now) Replay → folder.new ≡ folder.old }
@@ -68,8 +68,8 @@ fn run_command<S: Source, K: Sink, F: Folder>(
     folder: &mut F,
     command: Command,
 ) -> Result<(), ToolError>
-    ensures ends { ReadsNoScript command → Ends F.told K.told command (F.contents folder.old) (F.tally folder.old) (K.held sink.old) (K.count sink.old) result (F.contents folder.new) (F.tally folder.new) (K.held sink.new) (K.count sink.new) }
-    ensures replay { command ≡ Replay → EndsReplay S.told K.told (S.left source.old) (S.count source.old) (K.held sink.old) (K.count sink.old) result (S.left source.new) (S.count source.new) (K.held sink.new) (K.count sink.new) }
+    ensures ends { ReadsNoScript command → Ends command (folder_seen F.Folder folder.old) (sink_seen K.Sink sink.old) result (folder_seen F.Folder folder.new) (sink_seen K.Sink sink.new) }
+    ensures replay { command ≡ Replay → EndsReplay (source_seen S.Source source.old) (sink_seen K.Sink sink.old) result (source_seen S.Source source.new) (sink_seen K.Sink sink.new) }
     ensures source { ReadsNoScript command → source.new ≡ source.old }
     ensures folder { command ≡ Replay → folder.new ≡ folder.old }
 {
@@ -84,7 +84,7 @@ fn run_command<S: Source, K: Sink, F: Folder>(
 
 /// Writes the line of the error, and gives the status: where a write fails, that stands over it.
 fn tell<K: Sink>(sink: &mut K, error: ToolError) -> Status
-    ensures { Reports K.told (Err error) (line_of error) result (K.held sink.old) (K.count sink.old) (K.held sink.new) (K.count sink.new) }
+    ensures { Reports (Err error) (line_of error) result (sink_seen K.Sink sink.old) (sink_seen K.Sink sink.new) }
 {
     match write_line(sink, error) {
         Ok(()) => error.status(),

@@ -1,4 +1,5 @@
 ghost use Rattle.std.specs.Prelude.{◌≡◌, ◌++◌, codes, decimal};
+ghost use Rattle.byte_io.specs.Seen.{sink_seen};
 ghost use Rattle.prefs_tool.specs.Status.{fault_name, line, line_of};
 ghost use Rattle.prefs_tool.specs.Writing.{WritesPiece};
 
@@ -9,7 +10,7 @@ use script_lang::ScriptFault;
 
 /// Writes the whole piece.
 pub(crate) fn write<K: Sink>(sink: &mut K, piece: &[u8]) -> Result<(), ToolError>
-    ensures { WritesPiece K.told piece.now (K.held sink.old) (K.count sink.old) result (K.held sink.new) (K.count sink.new) }
+    ensures { WritesPiece piece.now (sink_seen K.Sink sink.old) result (sink_seen K.Sink sink.new) }
 {
     match write_all(sink, piece) {
         Ok(()) => Ok(()),
@@ -19,7 +20,7 @@ pub(crate) fn write<K: Sink>(sink: &mut K, piece: &[u8]) -> Result<(), ToolError
 
 /// Writes the line by which the error is told, if there is one. It takes no memory.
 pub(crate) fn write_line<K: Sink>(sink: &mut K, error: ToolError) -> Result<(), ToolError>
-    ensures { WritesPiece K.told (line_of error) (K.held sink.old) (K.count sink.old) result (K.held sink.new) (K.count sink.new) }
+    ensures { WritesPiece (line_of error) (sink_seen K.Sink sink.old) result (sink_seen K.Sink sink.new) }
 {
     match error {
         ToolError::Words => write(sink, b"error: words\n"),
@@ -47,7 +48,7 @@ fn write_number<K: Sink>(
     number: u64,
     end: &[u8],
 ) -> Result<(), ToolError>
-    ensures { WritesPiece K.told ((front.now ++ decimal number) ++ end.now) (K.held sink.old) (K.count sink.old) result (K.held sink.new) (K.count sink.new) }
+    ensures { WritesPiece ((front.now ++ decimal number) ++ end.now) (sink_seen K.Sink sink.old) result (sink_seen K.Sink sink.new) }
 {
     write(sink, front)?;
     write(sink, Buffer::new().format(number).as_bytes())?;

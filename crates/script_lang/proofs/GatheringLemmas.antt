@@ -1,36 +1,9 @@
 -- Texts that are gathered and written one after the other.
-use Rattle.std.proofs.Common.{◌≡◌, ◌∙◌, ◌+◌, ◌≤◌, ℕ, List, [], ◌++◌, Bool, true, false, Result, Ok, Err, length, take, inl, inr, sym, ap, subst, append_assoc, append-nil, arith}
-use Rattle.std.proofs.Math.Seq.{take-append_seam, take-append-add}
-use Rattle.std.proofs.lemmas.List.{take-append-le, take_all}
-use Rattle.std.proofs.lemmas.Bool.{cases_lt}
+use Rattle.std.proofs.Common.{◌≡◌, ◌∙◌, ℕ, List, [], ◌++◌, Result, Ok, Err, sym, ap, subst, append_assoc, append-nil}
 use Rattle.std.specs.Result.{OnOk}
-use Rattle.byte_io.specs.Sink.{WritesAll}
-use Rattle.store_traits.specs.Faults.{Counts}
-use Rattle.store_traits.proofs.FaultLemmas.{rose_since}
-use Rattle.script_lang.specs.Gathering.{PassesOn, GainsFront, Gathers}
-
--- nothing is taken of a text
-pub stops_at_once : (text held : List ℕ) → GainsFront text held held
-stops_at_once text held = (0, sym (append-nil held))
-
--- a front of a text is one of a longer text
-front_of_longer : (text more : List ℕ) (n : ℕ) → (m : ℕ) × (take m (text ++ more) ≡ take n text)
-front_of_longer text more n = elim (cases_lt n (length text)) [
-  | inl within ↦ (n, take-append-le n text more (omega arith))
-  | inr past ↦ (length text, take-append_seam text more ∙ sym (take_all n text past))
-]
-
-pub front_of_first : (first second held new_held : List ℕ) → GainsFront first held new_held → GainsFront (first ++ second) held new_held
-front_of_first first second held new_held gains =
-    let front = front_of_longer first second gains.0 in (front.0, gains.1 ∙ ap (λ (t : List ℕ). held ++ t) (sym front.1))
-
--- a front of a second text behind the whole first one
-pub front_of_second : (first second held middle new_held : List ℕ) → middle ≡ held ++ first → GainsFront second middle new_held → GainsFront (first ++ second) held new_held
-front_of_second first second held middle new_held whole gains = (
-  length first + gains.0,
-  gains.1 ∙ ap (λ (t : List ℕ). t ++ take gains.0 second) whole ∙ append_assoc held first (take gains.0 second)
-      ∙ ap (λ (t : List ℕ). held ++ t) (sym (take-append-add first second gains.0)),
-)
+use Rattle.byte_io.specs.Sink.{GainsPrefix, WritesAll}
+use Rattle.byte_io.proofs.WriteLemmas.{prefix_of_first, prefix_of_second}
+use Rattle.script_lang.specs.Gathering.{PassesOn, Gathers}
 
 -- a text that was pushed behind what is gathered
 pub passes_pushed : (text held gathered pushed : List ℕ) → pushed ≡ gathered ++ text → PassesOn text held gathered held pushed
@@ -55,12 +28,12 @@ gathers_behind first second held gathered middle_held middle_gathered new_held n
 gathers_behind first second held gathered middle_held middle_gathered new_held new_gathered (Err e) one two =
     let whole : gathered ++ (first ++ second) ≡ one.written ++ (middle_gathered ++ second) =
     sym (append_assoc gathered first second) ∙ ap (λ (t : List ℕ). t ++ second) one.parts ∙ append_assoc one.written middle_gathered second in
-    subst (λ (t : List ℕ). GainsFront t held new_held) (sym whole) (front_of_second one.written (middle_gathered ++ second) held middle_held new_held one.gained two)
+    subst (λ (t : List ℕ). GainsPrefix t held new_held) (sym whole) (prefix_of_second one.written (middle_gathered ++ second) held middle_held new_held one.gained two)
 
 -- a text that stopped stops what was to follow it
-pub stops_inside : (first second held gathered new_held : List ℕ) → GainsFront (gathered ++ first) held new_held → GainsFront (gathered ++ (first ++ second)) held new_held
+pub stops_inside : (first second held gathered new_held : List ℕ) → GainsPrefix (gathered ++ first) held new_held → GainsPrefix (gathered ++ (first ++ second)) held new_held
 stops_inside first second held gathered new_held stop =
-    subst (λ (t : List ℕ). GainsFront t held new_held) (append_assoc gathered first second) (front_of_first (gathered ++ first) second held new_held stop)
+    subst (λ (t : List ℕ). GainsPrefix t held new_held) (append_assoc gathered first second) (prefix_of_first (gathered ++ first) second held new_held stop)
 
 -- a push, and then the writing of what is gathered
 pub gathers_pushed : {T E : Type 0} (text held gathered pushed new_held new_gathered : List ℕ) (result : Result T E)
@@ -68,12 +41,7 @@ pub gathers_pushed : {T E : Type 0} (text held gathered pushed new_held new_gath
 gathers_pushed text held gathered pushed new_held new_gathered (Ok done) is passes =
     record { written = passes.written; parts = sym is ∙ sym (append-nil pushed) ∙ passes.parts; gained = passes.gained }
 gathers_pushed text held gathered pushed new_held new_gathered (Err e) is stop =
-    (stop.0, stop.1 ∙ ap (λ (t : List ℕ). held ++ take stop.0 t) (append-nil pushed ∙ is))
-
--- a count since an earlier moment
-pub counts_since : (has_failed : Bool) (before since now : ℕ) → before ≤ since → Counts has_failed since now → Counts has_failed before now
-counts_since true before since now later counts = record { later = omega (arith, counts.later); cause = rose_since before since now later counts.cause }
-counts_since false before since now later counts = record { later = omega (arith, counts.later); cause = tt }
+    subst (λ (t : List ℕ). GainsPrefix t held new_held) (append-nil pushed ∙ is) stop
 
 -- what is left to gather of a text is written, or not yet
 pub gathers_last : {T E : Type 0} (text held gathered middle_held middle_gathered new_held new_gathered : List ℕ) (result : Result T E)
@@ -94,4 +62,4 @@ all_written text held gathered middle_held middle_gathered new_held new_gathered
     whole.gained ∙ ap (λ (t : List ℕ). held ++ t) (sym written)
 all_written text held gathered middle_held middle_gathered new_held new_gathered (Err e) none so_far last empty =
     let stop = gathers_last {T = ℕ} text held gathered middle_held middle_gathered new_held new_gathered (Err e) so_far last in
-    (stop.0, stop.1 ∙ ap (λ (t : List ℕ). held ++ take stop.0 (t ++ text)) none)
+    subst (λ (t : List ℕ). GainsPrefix (t ++ text) held new_held) none stop

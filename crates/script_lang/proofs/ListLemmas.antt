@@ -8,7 +8,8 @@ use Rattle.std.proofs.lemmas.List.{take_more, take-append-drop, get_or-map, leng
 use Rattle.std.proofs.lemmas.List.Elements.{All-get_or}
 use Rattle.std.proofs.lemmas.List.Folds.{flat_map-map}
 use Rattle.std.proofs.lemmas.List.FromFn.{get_or-enumerate_from, length-enumerate_from}
-use Rattle.script_lang.specs.Gathering.{PassesOn, GainsFront}
+use Rattle.byte_io.specs.Sink.{GainsPrefix}
+use Rattle.script_lang.specs.Gathering.{PassesOn}
 use Rattle.script_lang.specs.TranscriptText.{line, lines_text}
 use Rattle.script_lang.proofs.GatheringLemmas.{passes_both, gathers_behind, stops_inside}
 
@@ -34,17 +35,17 @@ item_passed text_of items place item held gathered middle_held middle_gathered n
 
 pub item_stopped : {X : Type 0} (text_of : X → List ℕ) (items : List X) (place : ℕ) (item : X) (held gathered middle_held middle_gathered new_held : List ℕ)
     → StandsAt items place item → PassesOn (flat_map text_of (take place items)) held gathered middle_held middle_gathered
-    → GainsFront (middle_gathered ++ text_of item) middle_held new_held
-    → GainsFront (gathered ++ flat_map text_of items) held new_held
+    → GainsPrefix (middle_gathered ++ text_of item) middle_held new_held
+    → GainsPrefix (gathered ++ flat_map text_of items) held new_held
 item_stopped text_of items place item held gathered middle_held middle_gathered new_held stands so_far stop =
     let first = flat_map text_of (take place items) in
     let others = flat_map text_of (drop (place + 1) items) in
-    let up_to : GainsFront (gathered ++ (first ++ text_of item)) held new_held =
+    let up_to : GainsPrefix (gathered ++ (first ++ text_of item)) held new_held =
     gathers_behind {T = ℕ} {E = ℕ} first (text_of item) held gathered middle_held middle_gathered new_held [] (Err 0) so_far stop in
     let all : flat_map text_of items ≡ (first ++ text_of item) ++ others =
     ap (flat_map text_of) (sym (take-append-drop (place + 1) items)) ∙ flat_map-append text_of (take (place + 1) items) (drop (place + 1) items)
     ∙ ap (λ (t : List ℕ). t ++ others) (texts_more text_of items place item stands) in
-    subst (λ (t : List ℕ). GainsFront (gathered ++ t) held new_held) (sym all) (stops_inside (first ++ text_of item) others held gathered new_held up_to)
+    subst (λ (t : List ℕ). GainsPrefix (gathered ++ t) held new_held) (sym all) (stops_inside (first ++ text_of item) others held gathered new_held up_to)
 
 -- a numbered item
 pub stands_numbered : {X : Type 0} (items : List X) (place : ℕ) (item : X) → StandsAt items place item → StandsAt (enumerate_from 1 items) place (place + 1, item)

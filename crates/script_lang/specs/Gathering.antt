@@ -1,22 +1,19 @@
 -- Text on its way to a sink: it is gathered first, and written once there is enough.
-use Rattle.std.specs.Prelude.{ℕ, ◌≡◌, ◌++◌, Bool, true, false, List, take, Result, Ok, Err}
+use Rattle.std.specs.Prelude.{ℕ, ◌≡◌, ◌++◌, Bool, true, false, List, Result, Ok, Err}
+use Rattle.byte_io.specs.Sink.{GainsPrefix}
 use Rattle.script_lang.specs.declared.write_text_error.WriteTextError.{WriteTextError}
 use Rattle.script_lang.specs.declared.write_text_error.WriteTextError.TheVariants.{WriteFault}
 
--- of what was gathered and the text behind it, a front went to the sink and the rest is gathered now
+-- of what was gathered and the text behind it, a prefix went to the sink and the rest is gathered now
 pub record PassesOn (text held gathered new_held new_gathered : List ℕ) : Type 0 where
   pub written : List ℕ
   pub parts : gathered ++ text ≡ written ++ new_gathered
   pub gained : new_held ≡ held ++ written
 
--- the sink gained a front of the text
-abbrev pub GainsFront : List ℕ → List ℕ → List ℕ → Type 0
-GainsFront text held new_held = (taken : ℕ) × (new_held ≡ held ++ take taken text)
-
--- the text was passed on; or it stopped, and the sink gained a front of what was gathered and the text
+-- the text was passed on; or it stopped, and the sink gained a prefix of what was gathered and the text
 abbrev pub Gathers : {T E : Type 0} → List ℕ → List ℕ → List ℕ → Result T E → List ℕ → List ℕ → Type 0
 Gathers text held gathered (Ok done) new_held new_gathered = PassesOn text held gathered new_held new_gathered
-Gathers text held gathered (Err e) new_held new_gathered = GainsFront (gathered ++ text) held new_held
+Gathers text held gathered (Err e) new_held new_gathered = GainsPrefix (gathered ++ text) held new_held
 
 abbrev pub is_write_fault : {T : Type 0} → Result T WriteTextError → Bool
 is_write_fault (Err WriteFault) = true

@@ -1,8 +1,11 @@
 -- Counts of faults over several calls.
-use Rattle.std.proofs.Common.{◌≤◌, ℕ, inl, inr, arith}
-use Rattle.store_traits.specs.Faults.{Rose}
+use Rattle.std.proofs.Common.{◌≡◌, ℕ, Bool, false, refl, subst, arith}
+use Rattle.store_traits.specs.Faults.{Counts}
 
--- a count that rose since a later moment rose since an earlier one
-pub rose_since : (before since now : ℕ) → before ≤ since → Rose since now → Rose before now
-rose_since before since now later (inl rose) = inl (omega arith)
-rose_since before since now later (inr full) = inr full
+-- no call was made
+pub counts_none : (count : ℕ) → Counts false count count
+counts_none count = record { later = omega arith; cause = tt; kept = refl }
+
+-- a count since an earlier moment, if no call failed between
+pub counts_since : (has_failed : Bool) (before since now : ℕ) → since ≡ before → Counts has_failed since now → Counts has_failed before now
+counts_since has_failed before since now same counts = subst (λ (count : ℕ). Counts has_failed count now) same counts

@@ -1,7 +1,6 @@
-ghost use Rattle.std.specs.Prelude.{◌≡◌, ◌≤◌, ◌-◌, ◌^◌, ℕ, is_err};
-ghost use Rattle.std.specs.Bool.{OnFalse};
+ghost use Rattle.std.specs.Prelude.{◌≡◌, ◌≤◌, ◌-◌, ◌^◌, ℕ, if◌then◌else◌, is_err};
 ghost use Rattle.std.specs.Result.{result_ok};
-ghost use Rattle.store_traits.specs.Faults.{Counts};
+ghost use Rattle.store_traits.specs.Faults.{Counts, one_more};
 
 use crate::Failed;
 use std::io;
@@ -37,9 +36,9 @@ impl FaultCount {
 
     /// Counts a call, which is one fault more where it failed.
     pub fn count(&mut self, has_failed: bool)
+        ensures count { self.new ≡ (if has_failed then one_more self.old else self.old) }
         ensures counts { Counts has_failed self.old self.new }
         ensures fits { self.new ≤ 2 ^ 64 - 1 }
-        ensures same { OnFalse has_failed (self.new ≡ self.old) }
     {
         if has_failed {
             self.count = self.count.saturating_add(1);
@@ -49,9 +48,9 @@ impl FaultCount {
     /// Counts a call of the system, whose error is a fault of the device.
     pub fn answer<T: Drop>(&mut self, outcome: io::Result<T>) -> Result<T, Failed>
         ensures value { result_ok result ≡ result_ok outcome }
+        ensures count { self.new ≡ (if is_err result then one_more self.old else self.old) }
         ensures counts { Counts (is_err result) self.old self.new }
         ensures fits { self.new ≤ 2 ^ 64 - 1 }
-        ensures same { OnFalse (is_err result) (self.new ≡ self.old) }
     {
         self.count(outcome.is_err());
         match outcome {

@@ -5,7 +5,7 @@ abbrev pub invariant-loop-bytes : goal.invariant-loop-bytes
 invariant-loop-bytes g l = record {
   whole : IsTrue g.S.Source.told → g.S.Source.left l.initial.source ≡ l.bytes.items ++ g.S.Source.left l.source;
   within : length l.bytes.items ≤ l.limit;
-  later : g.S.Source.count l.initial.source ≤ g.S.Source.count l.source;
+  sound : g.S.Source.count l.source ≡ g.S.Source.count l.initial.source;
 }
 
 abbrev pub decreases-loop-bytes : goal.decreases-loop-bytes

@@ -1,8 +1,8 @@
--- The sink took a front of the piece.
-use Rattle.prefs_tool.proofs.WriteLemmas.{front_taken}
+-- The sink took all of the piece, or a prefix of it.
 use Rattle.prefs_tool.proofs.write.write.Goals as goal
 
+pub returns-in-Ok : goal.returns-in-Ok
+returns-in-Ok g c = record { sound = c.in-Ok.ensures.faults.kept; gained = c.in-Ok.ensures.taken }
+
 pub returns-in-Err : goal.returns-in-Err
-returns-in-Err g c =
-    let faults = c.in-Err.ensures.faults in
-    (faults.cause, λ told. let taken = c.in-Err.ensures.taken told in front_taken c.args.piece.now _ _ taken.0 taken.1)
+returns-in-Err g c = record { rose = c.in-Err.ensures.faults.cause; gained = c.in-Err.ensures.taken }

@@ -8,7 +8,8 @@ use Rattle.prefs_text.specs.declared.answer_line.AnswerLine.{AnswerLine}
 use Rattle.prefs_text.specs.declared.names.Names.{Names}
 use Rattle.prefs_text.specs.AnswerText.{AnswerHasNames, answer_text}
 use Rattle.prefs_text.specs.AnswerView.{line_seen}
-use Rattle.script_lang.specs.Gathering.{GainsFront, PassesOn}
+use Rattle.byte_io.specs.Sink.{GainsPrefix}
+use Rattle.script_lang.specs.Gathering.{PassesOn}
 use Rattle.script_lang.specs.TranscriptText.{line, lines_text}
 use Rattle.script_lang.proofs.ListLemmas.{holds_at, item_passed, item_stopped, lines_text-map}
 use Rattle.script_lang.proofs.writing.lists.write_answers.Goals as goal
@@ -28,7 +29,7 @@ pub returns-in_err-write_answer-clause-taken : goal.returns-in_err-write_answer-
 returns-in_err-write_answer-clause-taken g c told =
     let held = g.K.Sink.held in
     let p = err_from_is_err_and c.from_residual.result c.from_residual.ensures.1 in
-    rw p.1 (subst (λ (t : List ℕ). GainsFront (string_bytes c.args.gathered.now ++ t) (held c.args.sink.now) (held c.write_answer.new.sink)) (texts_are c.args.names.now c.args.answers.now)
+    rw p.1 (subst (λ (t : List ℕ). GainsPrefix (string_bytes c.args.gathered.now ++ t) (held c.args.sink.now) (held c.write_answer.new.sink)) (texts_are c.args.names.now c.args.answers.now)
     (item_stopped (text_of c.args.names.now) c.args.answers.now c.loop-answer.answer-index c.answer-item.result (held c.args.sink.now) (string_bytes c.args.gathered.now)
     (held c.loop-answer.sink) (string_bytes c.loop-answer.gathered) (held c.write_answer.new.sink) (record { within = omega arith; is = c.answer-item.is })
     (c.loop-answer.invariant.passed told) (c.in_err-write_answer.ensures.taken told)))
@@ -37,7 +38,7 @@ pub loop-answer-preserved : goal.loop-answer-preserved
 loop-answer-preserved g c =
     let held = g.K.Sink.held in
     record {
-      later = omega (arith, c.loop-answer.invariant.later, c.in_ok-write_answer.ensures.faults.later);
+      sound = c.in_ok-write_answer.ensures.faults.kept ∙ c.loop-answer.invariant.sound;
       passed = λ told. item_passed (text_of c.args.names.now) c.args.answers.now c.loop-answer.answer-index c.answer-item.result (held c.args.sink.now) (string_bytes c.args.gathered.now)
           (held c.loop-answer.sink) (string_bytes c.loop-answer.gathered) (held c.write_answer.new.sink) (string_bytes c.write_answer.new.gathered)
           (record { within = omega arith; is = c.answer-item.is }) (c.loop-answer.invariant.passed told) (c.in_ok-write_answer.ensures.taken told);

@@ -7,7 +7,8 @@ use Rattle.std.proofs.lemmas.Result.{err_from_is_err_and}
 use Rattle.hist_journal.specs.View.{entry_seen}
 use Rattle.prefs_text.specs.declared.names.Names.{Names}
 use Rattle.prefs_text.specs.EntryText.{PrefEntry, entry_text}
-use Rattle.script_lang.specs.Gathering.{GainsFront, PassesOn}
+use Rattle.byte_io.specs.Sink.{GainsPrefix}
+use Rattle.script_lang.specs.Gathering.{PassesOn}
 use Rattle.script_lang.specs.TranscriptText.{entry_lines, line, lines_text}
 use Rattle.script_lang.proofs.ListLemmas.{StandsAt, item_passed, item_stopped, lines_text-map, stands_got, stands_numbered}
 use Rattle.script_lang.proofs.writing.lists.write_entries.Goals as goal
@@ -29,7 +30,7 @@ returns-in_err-write_entry-clause-taken g c told =
     let index = c.loop-index.index in
     let entry = entry_seen c.in-Some.entry.now in
     let p = err_from_is_err_and c.from_residual.result c.from_residual.ensures.1 in
-    rw p.1 (subst (λ (t : List ℕ). GainsFront (string_bytes c.args.gathered.now ++ t) (held c.args.sink.now) (held c.write_entry.new.sink)) (texts_are names entries)
+    rw p.1 (subst (λ (t : List ℕ). GainsPrefix (string_bytes c.args.gathered.now ++ t) (held c.args.sink.now) (held c.write_entry.new.sink)) (texts_are names entries)
     (item_stopped (text_of names) (enumerate_from 1 entries) index (index + 1, entry) (held c.args.sink.now) (string_bytes c.args.gathered.now)
     (held c.loop-index.sink) (string_bytes c.loop-index.gathered) (held c.write_entry.new.sink) (stands entries index entry c.in-Some.ensures.entry)
     (c.loop-index.invariant.passed told) (c.in_err-write_entry.ensures.taken told)))
@@ -42,7 +43,7 @@ loop-index-preserved g c =
     let index = c.loop-index.index in
     let entry = entry_seen c.in-Some.entry.now in
     record {
-      later = omega (arith, c.loop-index.invariant.later, c.in_ok-write_entry.ensures.faults.later);
+      sound = c.in_ok-write_entry.ensures.faults.kept ∙ c.loop-index.invariant.sound;
       passed = λ told. item_passed (text_of names) (enumerate_from 1 entries) index (index + 1, entry) (held c.args.sink.now) (string_bytes c.args.gathered.now)
           (held c.loop-index.sink) (string_bytes c.loop-index.gathered) (held c.write_entry.new.sink) (string_bytes c.write_entry.new.gathered)
           (stands entries index entry c.in-Some.ensures.entry) (c.loop-index.invariant.passed told) (c.in_ok-write_entry.ensures.taken told);

@@ -1,7 +1,8 @@
 -- The file's line is passed on behind those of the entries.
 use Rattle.std.proofs.Common.{◌++◌, List, ℕ, string_bytes, subst}
 use Rattle.std.proofs.lemmas.Result.{err_from_is_err_and}
-use Rattle.script_lang.specs.Gathering.{GainsFront, Gathers}
+use Rattle.byte_io.specs.Sink.{GainsPrefix}
+use Rattle.script_lang.specs.Gathering.{Gathers}
 use Rattle.script_lang.specs.TranscriptText.{file_text, line}
 use Rattle.script_lang.specs.TranscriptView.{session_seen}
 use Rattle.script_lang.proofs.GatheringLemmas.{gathers_behind, stops_inside}
@@ -16,7 +17,7 @@ returns-in_err-write_entries-clause-taken g c told =
     let names = c.args.names.now in
     let session = session_seen c.args.session.now in
     let p = err_from_is_err_and c.from_residual.result c.from_residual.ensures.1 in
-    rw p.1 (subst (λ (t : List ℕ). GainsFront (gathered ++ t) held stopped) (end_parts names session)
+    rw p.1 (subst (λ (t : List ℕ). GainsPrefix (gathered ++ t) held stopped) (end_parts names session)
     (stops_inside (entries_part names session) (line (file_text session.file)) held gathered stopped (c.in_err-write_entries.ensures.taken told)))
 
 pub returns-clause-taken : goal.returns-clause-taken

@@ -3,7 +3,8 @@ use Rattle.std.proofs.Common.{◌++◌, List, ℕ, [], Err, map, string_bytes, s
 use Rattle.std.proofs.lemmas.Result.{err_from_is_err_and}
 use Rattle.prefs_text.specs.declared.seen.AnswerLineSeen.{AnswerLineSeen}
 use Rattle.prefs_text.specs.AnswerText.{answer_text}
-use Rattle.script_lang.specs.Gathering.{GainsFront, Gathers, PassesOn}
+use Rattle.byte_io.specs.Sink.{GainsPrefix}
+use Rattle.script_lang.specs.Gathering.{Gathers, PassesOn}
 use Rattle.script_lang.specs.TranscriptText.{lines_text}
 use Rattle.script_lang.specs.TranscriptView.{session_seen}
 use Rattle.script_lang.proofs.GatheringLemmas.{gathers_behind, passes_both, passes_pushed, stops_inside}
@@ -20,11 +21,11 @@ returns-in_err-write_answers-clause-taken g c told =
     let session = session_seen c.args.session.now in
     let head = head_part c.args.number session in
     let answers = answers_part names session in
-    let stop = subst (λ (seen : List AnswerLineSeen). GainsFront (pushed ++ lines_text (map (answer_text names) seen)) held stopped) c.lines.ensures (c.in_err-write_answers.ensures.taken told) in
-    let both : GainsFront (gathered ++ (head ++ answers)) held stopped =
+    let stop = subst (λ (seen : List AnswerLineSeen). GainsPrefix (pushed ++ lines_text (map (answer_text names) seen)) held stopped) c.lines.ensures (c.in_err-write_answers.ensures.taken told) in
+    let both : GainsPrefix (gathered ++ (head ++ answers)) held stopped =
     gathers_behind {T = ℕ} {E = ℕ} head answers held gathered held pushed stopped [] (Err 0) (passes_pushed head held gathered pushed c.in_ok-push_head.ensures) stop in
     let p = err_from_is_err_and c.from_residual-in_err-write_answers.result c.from_residual-in_err-write_answers.ensures.1 in
-    rw p.1 (subst (λ (t : List ℕ). GainsFront (gathered ++ t) held stopped) (session_parts names c.args.number session) (stops_inside (head ++ answers) (end_part names session) held gathered stopped both))
+    rw p.1 (subst (λ (t : List ℕ). GainsPrefix (gathered ++ t) held stopped) (session_parts names c.args.number session) (stops_inside (head ++ answers) (end_part names session) held gathered stopped both))
 
 pub returns-clause-taken : goal.returns-clause-taken
 returns-clause-taken g c told =

@@ -1,5 +1,5 @@
 -- Each session's text is passed on behind those before it.
-use Rattle.std.proofs.Common.{◌≡◌, ◌+◌, ◌≤◌, ℕ, List, length, map, take, string_bytes, ap, subst, arith}
+use Rattle.std.proofs.Common.{◌≡◌, ◌∙◌, ◌+◌, ◌≤◌, ℕ, List, length, map, take, string_bytes, ap, subst, arith}
 use Rattle.std.specs.List.{enumerate_from, flat_map}
 use Rattle.std.proofs.lemmas.List.{take_all, length-map}
 use Rattle.std.proofs.lemmas.List.FromFn.{length-enumerate_from}
@@ -42,7 +42,7 @@ loop-index-preserved g c =
     let index = c.loop-index.index in
     let session = c.index-sessions-index.result in
     record {
-      later = omega (arith, c.loop-index.invariant.later, c.in_ok-write_session.ensures.faults.later);
+      sound = c.in_ok-write_session.ensures.faults.kept ∙ c.loop-index.invariant.sound;
       passed = λ told. item_passed (text_of c.args.names.now) (enumerate_from 1 (map session_seen sessions)) index (index + 1, session_seen session) (held c.args.sink.now) (string_bytes c.args.gathered.now)
           (held c.loop-index.sink) (string_bytes c.loop-index.gathered) (held c.write_session.new.sink) (string_bytes c.write_session.new.gathered)
           (stands sessions index session (record { within = c.loop-index-test.true; is = c.index-sessions-index.is }))
