@@ -13,9 +13,9 @@ use Rattle.hist_journal.specs.declared.seen.BaseSeen.{BaseSeen}
 use Rattle.hist_journal.specs.declared.seen.BaseSeen.TheVariants.{Held}
 use Rattle.hist_journal.specs.declared.seen.KindSeen.TheVariants.{Edit}
 use Rattle.hist_journal.specs.Folds.{applied_or, edited, value_after}
-use Rattle.shelf.specs.declared.progress.Progress.TheVariants.{Ended, Moved}
-use Rattle.shelf.specs.Calls.{Gone, Kept, Raising, Reading, SyncingFolder}
-use Rattle.shelf.specs.Effects.{DoesLast, Keeps}
+use Rattle.step_table.specs.declared.progress.Progress.TheVariants.{Ended, Moved}
+use Rattle.step_table.specs.Calls.{Gone, Kept, Raising, Reading, SyncingFolder}
+use Rattle.step_table.specs.Effects.{DoesLast, Keeps}
 use Rattle.shelf.specs.Legal.{value_at}
 use Rattle.shelf.specs.ShelfSeen.{ShelfSeen}
 use Rattle.shelf.specs.ShelfTurns.{Adds, Frees}

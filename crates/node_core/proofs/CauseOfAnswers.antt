@@ -7,19 +7,20 @@ use Rattle.hist_journal.specs.declared.seen.BaseSeen.TheVariants.{Held, Corrupt,
 use Rattle.hist_journal.specs.declared.seen.EntrySeen.{EntrySeen}
 use Rattle.hist_journal.specs.Folds.{edition_of}
 use Rattle.shelf.specs.declared.store.Store.{Store}
-use Rattle.shelf.specs.ApplyRow.{Applies}
+use Rattle.step_table.specs.ApplyRow.{Applies}
 use Rattle.shelf.specs.Base.{ReadsAs}
-use Rattle.shelf.specs.Calls.{At, First, ReadingFirst, Migrating, Reading, Creating, Appending, SyncingScratch, Renaming, SyncingFolder, Changed, Kept, is_gone}
+use Rattle.step_table.specs.Calls.{At, First, ReadingFirst, Migrating, Reading, Creating, Appending, SyncingScratch, Renaming, SyncingFolder, Changed, Kept, is_gone}
 use Rattle.shelf.specs.Causes.{HasCause, IsFaulted, IsRefused, IsSince, IsTooLong}
-use Rattle.shelf.specs.Effects.{Fails, next_place}
+use Rattle.step_table.specs.Effects.{Fails, next_place}
 use Rattle.shelf.specs.Legal.{value_at}
-use Rattle.shelf.specs.LockRow.{LockRow}
+use Rattle.step_table.specs.LockRow.{LockRow}
 use Rattle.shelf.specs.Places.{HasFront}
-use Rattle.shelf.specs.declared.progress.Progress.{Progress}
-use Rattle.shelf.specs.declared.progress.Progress.TheVariants.{Ended}
-use Rattle.shelf.specs.ReadRows.{ReadRow, ToMigrations}
-use Rattle.shelf.specs.Turn.{EndsDead, EndsDying, Row, Turn, TurnBy, begin, has_died_by, dies_now}
-use Rattle.shelf.specs.World.{Rules, World, Turned}
+use Rattle.step_table.specs.declared.progress.Progress.{Progress}
+use Rattle.step_table.specs.declared.progress.Progress.TheVariants.{Ended}
+use Rattle.step_table.specs.ReadRows.{ReadRow, ToMigrations}
+use Rattle.step_table.specs.Turn.{EndsDead, EndsDying, Row, Turn, TurnBy, begin, has_died_by, dies_now}
+use Rattle.shelf.specs.Rules.{Rules}
+use Rattle.step_table.specs.World.{World, Turned}
 use Rattle.shelf.specs.PastBounds.{IsFull}
 use Rattle.node_core.specs.Knows.{Knows}
 use Rattle.node_core.specs.Own.{IsEarly, IsFor}

@@ -16,14 +16,15 @@ use Rattle.hist_journal.proofs.QuietLemmas.{pending-push}
 use Rattle.folder_disk.specs.Contents.{Contents, Synced, Unsynced, scratch_bytes}
 use Rattle.scratch_rename.specs.Filling.{next_piece}
 use Rattle.shelf.specs.declared.store.Store.{Store}
-use Rattle.shelf.specs.Calls.{At, Raising, Creating, Appending, SyncingScratch, Renaming, SyncingFolder, Changed, Plan}
-use Rattle.shelf.specs.Effects.{Does, next_place}
+use Rattle.step_table.specs.Calls.{At, Raising, Creating, Appending, SyncingScratch, Renaming, SyncingFolder, Changed, Plan}
+use Rattle.step_table.specs.Effects.{Does, next_place}
 use Rattle.shelf.specs.Legal.{value_at}
-use Rattle.shelf.specs.WriteRows.{Appends, Creates, Raises, Renames, SyncsScratch, filling, piece_written}
-use Rattle.shelf.specs.World.{Rules, World, Turned}
+use Rattle.step_table.specs.WriteRows.{Appends, Creates, Raises, Renames, SyncsScratch, filling, piece_written}
+use Rattle.shelf.specs.Rules.{Rules}
+use Rattle.step_table.specs.World.{World, Turned}
 use Rattle.shelf.proofs.Bools.{never}
 use Rattle.shelf.proofs.LedgerLemmas.{quiet_ended}
-use Rattle.shelf.proofs.StepLemmas.{itself}
+use Rattle.shelf.proofs.SameCalls.{itself}
 use Rattle.node_core.specs.Knows.{IsDue, IsInScratch, Knows, KnowsContents}
 use Rattle.node_core.specs.Own.{HasChanged, IsEarly, OwnEntries}
 use Rattle.node_core.specs.Phases.{is_holding, is_initialising, is_raised, room_at}

@@ -10,17 +10,17 @@ use Rattle.hist_journal.specs.Kinds.{is_raise}
 use Rattle.hist_journal.specs.Nodes.{is_ready}
 use Rattle.hist_journal.proofs.FoldLemmas.{value_of-push}
 use Rattle.shelf.specs.declared.store.Store.{Store}
-use Rattle.shelf.specs.Calls.{Changed, Plan, Renaming, SyncingFolder}
+use Rattle.step_table.specs.Calls.{Changed, Plan, Renaming, SyncingFolder}
 use Rattle.shelf.specs.Changes.{MakesValue}
-use Rattle.shelf.specs.Effects.{Does}
+use Rattle.step_table.specs.Effects.{Does}
 use Rattle.shelf.specs.Legal.{value_at}
 use Rattle.shelf.specs.Meanings.{Meanings}
 use Rattle.shelf.specs.OpenRaise.{has_open_raise}
 use Rattle.shelf.specs.Plans.{WritesChange}
 use Rattle.shelf.specs.ShelfSeen.{ShelfSeen}
 use Rattle.shelf.specs.ShelfTurns.{Adds, FitInTurn}
-use Rattle.shelf.specs.World.{Rules}
-use Rattle.shelf.specs.WriteRows.{Renames}
+use Rattle.shelf.specs.Rules.{Rules}
+use Rattle.step_table.specs.WriteRows.{Renames}
 use Rattle.shelf.proofs.GoingOn.{GoesOn, edit_fits}
 use Rattle.node_core.specs.declared.origin.Origin.{Origin}
 use Rattle.node_core.specs.Knows.{IsDue}

@@ -13,14 +13,16 @@ use Rattle.hist_journal.specs.declared.seen.KindSeen.TheVariants.{Raise, Inited,
 use Rattle.hist_journal.specs.Folds.{raises_of}
 use Rattle.hist_journal.specs.Kinds.{is_call, is_raise}
 use Rattle.hist_journal.proofs.FoldLemmas.{raises_of-other, raises_of-raise}
-use Rattle.shelf.specs.Calls.{At, First, Gone, Plan, Creating}
-use Rattle.shelf.specs.Effects.{Does, DoesLast, Fails, Stops, freed, with_entries}
-use Rattle.shelf.specs.LastRows.{Finishes}
+use Rattle.step_table.specs.Calls.{At, First, Gone, Plan, Creating}
+use Rattle.step_table.specs.Effects.{Does, DoesLast, Fails, Stops}
+use Rattle.shelf.specs.Ledger.{freed}
+use Rattle.shelf.specs.Entries.{with_entries}
+use Rattle.step_table.specs.LastRows.{Finishes}
 use Rattle.shelf.specs.ShelfSeen.{ShelfSeen}
 use Rattle.shelf.specs.ShelfTurns.{Adds, Faults, Frees}
-use Rattle.shelf.specs.WriteRows.{Raises}
+use Rattle.step_table.specs.WriteRows.{Raises}
 use Rattle.shelf.proofs.LedgerLemmas.{freed_room_own}
-use Rattle.shelf.proofs.StepLemmas.{itself}
+use Rattle.shelf.proofs.SameCalls.{itself}
 use Rattle.node_core.specs.declared.origin.Origin.{Origin}
 use Rattle.node_core.specs.Views.{room_of, turned}
 

@@ -9,17 +9,18 @@ use Rattle.hist_journal.specs.declared.seen.EntrySeen.{EntrySeen}
 use Rattle.hist_journal.specs.declared.seen.KindSeen.{KindSeen}
 use Rattle.hist_journal.specs.declared.seen.KindSeen.TheVariants.{Death}
 use Rattle.hist_journal.specs.Kinds.{is_node}
-use Rattle.shelf.specs.declared.progress.Progress.{Progress}
-use Rattle.shelf.specs.declared.progress.Progress.TheVariants.{Blocked}
+use Rattle.step_table.specs.declared.progress.Progress.{Progress}
+use Rattle.step_table.specs.declared.progress.Progress.TheVariants.{Blocked}
 use Rattle.shelf.specs.declared.store.Store.{Store}
 use Rattle.shelf.specs.CallOrder.{is_later}
-use Rattle.shelf.specs.Calls.{Call, is_gone}
+use Rattle.step_table.specs.Calls.{Call, is_gone}
 use Rattle.shelf.specs.Entries.{is_any, is_own}
-use Rattle.shelf.specs.Turn.{Dies, EndsDead, EndsDying, Turn, begin, has_died_by, dies_now}
-use Rattle.shelf.specs.World.{Rules, World, Turned}
+use Rattle.step_table.specs.Turn.{Dies, EndsDead, EndsDying, Turn, begin, has_died_by, dies_now}
+use Rattle.shelf.specs.Rules.{Rules}
+use Rattle.step_table.specs.World.{World, Turned}
 use Rattle.shelf.proofs.Bools.{never}
-use Rattle.shelf.proofs.GrowthLemmas.{IsOwn, all_added, dead_same, dying_dies, entries_of, none_passes, turn_own}
-use Rattle.shelf.proofs.StepLemmas.{turn_has_to_wait, turn_waits}
+use Rattle.step_table.proofs.GrowthLemmas.{IsOwn, all_added, dead_same, dying_dies, entries_of, none_passes, turn_own}
+use Rattle.step_table.proofs.StepLemmas.{turn_has_to_wait, turn_waits}
 use Rattle.node_core.specs.Between.{Between, Died, Undisturbed}
 use Rattle.node_core.specs.Knows.{Knows}
 use Rattle.node_core.specs.Phases.{is_holding}

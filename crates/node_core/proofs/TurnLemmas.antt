@@ -11,17 +11,17 @@ use Rattle.folder_disk.specs.declared.folder.Folder as folder_trait
 use Rattle.hist_journal.specs.declared.seen.EntrySeen.{EntrySeen}
 use Rattle.hist_journal.specs.Folds.{edition_of}
 use Rattle.hist_journal.specs.Nodes.{is_ready}
-use Rattle.shelf.specs.declared.progress.Progress.{Progress}
-use Rattle.shelf.specs.declared.progress.Progress.TheVariants.{Moved, Blocked, Ended}
-use Rattle.shelf.specs.Calls.{At, Call, First, Gone, is_first, is_gone}
+use Rattle.step_table.specs.declared.progress.Progress.{Progress}
+use Rattle.step_table.specs.declared.progress.Progress.TheVariants.{Moved, Blocked, Ended}
+use Rattle.step_table.specs.Calls.{At, Call, First, Gone, is_first, is_gone}
 use Rattle.shelf.specs.Entries.{is_death}
 use Rattle.shelf.specs.Meanwhile.{NoDeathOf}
 use Rattle.shelf.specs.ShelfSeen.{ShelfSeen}
-use Rattle.shelf.specs.Turn.{Turn, begin, dies_now, has_died_by}
-use Rattle.shelf.specs.World.{Turned, World}
+use Rattle.step_table.specs.Turn.{Turn, begin, dies_now, has_died_by}
+use Rattle.step_table.specs.World.{Turned, World}
 use Rattle.shelf.proofs.Bools.{never}
 use Rattle.shelf.proofs.DeathLemmas.{has_not_died, none_of_node}
-use Rattle.shelf.proofs.StepLemmas.{turn_waits}
+use Rattle.step_table.proofs.StepLemmas.{turn_waits}
 use Rattle.node_core.specs.declared.origin.Origin.{Origin}
 use Rattle.node_core.specs.Own.{IsFor}
 use Rattle.node_core.specs.Phases.{is_finishing}

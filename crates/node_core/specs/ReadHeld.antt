@@ -7,11 +7,11 @@ use Rattle.store_traits.specs.declared.transform.Transform as transform_trait
 use Rattle.folder_disk.specs.declared.folder.Folder as folder_trait
 use Rattle.hist_journal.specs.declared.seen.BaseSeen.TheVariants.{Held}
 use Rattle.hist_journal.specs.Folds.{edition_of}
-use Rattle.shelf.specs.declared.progress.Progress.TheVariants.{Ended}
+use Rattle.step_table.specs.declared.progress.Progress.TheVariants.{Ended}
 use Rattle.shelf.specs.Base.{ReadsAs}
-use Rattle.shelf.specs.Calls.{At, Gone}
+use Rattle.step_table.specs.Calls.{At, Gone}
 use Rattle.shelf.specs.Legal.{value_at}
-use Rattle.shelf.specs.ReadRows.{ReadRow}
+use Rattle.step_table.specs.ReadRows.{ReadRow}
 use Rattle.shelf.specs.ShelfSeen.{ShelfSeen}
 use Rattle.shelf.specs.ShelfTurns.{Adds}
 use Rattle.node_core.specs.declared.origin.Origin.{Origin}

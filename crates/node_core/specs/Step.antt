@@ -7,15 +7,15 @@ use Rattle.folder_disk.specs.declared.folder.Folder as folder_trait
 use Rattle.store_traits.specs.declared.ids.CallId.{CallId}
 use Rattle.hist_journal.specs.declared.seen.EntrySeen.{EntrySeen}
 use Rattle.hist_journal.specs.Nodes.{is_ready}
-use Rattle.shelf.specs.declared.progress.Progress.{Progress}
-use Rattle.shelf.specs.declared.progress.Progress.TheVariants.{Moved, Blocked, Ended}
+use Rattle.step_table.specs.declared.progress.Progress.{Progress}
+use Rattle.step_table.specs.declared.progress.Progress.TheVariants.{Moved, Blocked, Ended}
 use Rattle.shelf.specs.declared.store.Store.{Store}
 use Rattle.shelf.specs.Acknowledged.{IsUpdated}
-use Rattle.shelf.specs.Calls.{At, is_first}
+use Rattle.step_table.specs.Calls.{At, is_first}
 use Rattle.shelf.specs.Causes.{HasCause}
 use Rattle.shelf.specs.ShelfSeen.{ShelfSeen}
-use Rattle.shelf.specs.Turn.{Turn}
-use Rattle.shelf.specs.World.{Rules}
+use Rattle.step_table.specs.Turn.{Turn}
+use Rattle.shelf.specs.Rules.{Rules}
 use Rattle.node_core.specs.declared.origin.Origin.{Origin}
 use Rattle.node_core.specs.Between.{Between, Died}
 use Rattle.node_core.specs.Phases.{is_holding}

@@ -10,15 +10,16 @@ use Rattle.store_traits.specs.declared.update_error.UpdateError.TheVariants as e
 use Rattle.folder_disk.specs.declared.folder.Folder as folder_trait
 use Rattle.folder_disk.specs.declared.mem_folder.MemFolder.{MemFolder}
 use Rattle.prefs_proto.specs.declared.prefs_codec.PrefsCodec.{PrefsCodec}
-use Rattle.shelf.specs.declared.progress.Progress.{Progress}
-use Rattle.shelf.specs.declared.progress.Progress.TheVariants.{Moved, Blocked, Ended}
+use Rattle.step_table.specs.declared.progress.Progress.{Progress}
+use Rattle.step_table.specs.declared.progress.Progress.TheVariants.{Moved, Blocked, Ended}
 use Rattle.shelf.specs.declared.shelf.Shelf.{Shelf}
 use Rattle.shelf.specs.declared.store.Store.{Store}
-use Rattle.shelf.specs.Calls.{At, Call, First, Gone, is_gone}
+use Rattle.step_table.specs.Calls.{At, Call, First, Gone, is_gone}
 use Rattle.shelf.specs.Entries.{is_death}
 use Rattle.shelf.specs.ShelfSeen.{shelf_seen}
-use Rattle.shelf.specs.Turn.{Row, Turn, begin}
-use Rattle.shelf.specs.World.{Rules, Turned}
+use Rattle.step_table.specs.Turn.{Row, Turn, begin}
+use Rattle.shelf.specs.Rules.{Rules}
+use Rattle.step_table.specs.World.{Turned}
 use Rattle.node_core.specs.Knows.{Knows}
 use Rattle.node_core.specs.Phases.{is_finishing, is_holding}
 use Rattle.node_core.specs.Step.{TurnFrom}

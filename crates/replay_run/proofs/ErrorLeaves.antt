@@ -4,17 +4,18 @@ use Rattle.std.specs.List.{list_any}
 use Rattle.store_traits.specs.declared.update_error.UpdateError.{UpdateError}
 use Rattle.store_traits.specs.declared.update_error.UpdateError.TheVariants as error
 use Rattle.folder_disk.specs.Contents.{Contents}
-use Rattle.shelf.specs.declared.progress.Progress.{Progress}
-use Rattle.shelf.specs.declared.progress.Progress.TheVariants.{Ended}
+use Rattle.step_table.specs.declared.progress.Progress.{Progress}
+use Rattle.step_table.specs.declared.progress.Progress.TheVariants.{Ended}
 use Rattle.shelf.specs.declared.store.Store.{Store}
-use Rattle.shelf.specs.ApplyRow.{Applies}
-use Rattle.shelf.specs.Calls.{At, First, ReadingFirst, Migrating, Reading, Creating, Appending, SyncingScratch, Renaming, SyncingFolder}
-use Rattle.shelf.specs.Effects.{Fails}
+use Rattle.step_table.specs.ApplyRow.{Applies}
+use Rattle.step_table.specs.Calls.{At, First, ReadingFirst, Migrating, Reading, Creating, Appending, SyncingScratch, Renaming, SyncingFolder}
+use Rattle.step_table.specs.Effects.{Fails}
 use Rattle.shelf.specs.Entries.{is_own, is_update}
-use Rattle.shelf.specs.LockRow.{LockRow}
-use Rattle.shelf.specs.ReadRows.{ReadRow, ToMigrations}
-use Rattle.shelf.specs.Turn.{Row, Turn, begin}
-use Rattle.shelf.specs.World.{Rules, World, Turned}
+use Rattle.step_table.specs.LockRow.{LockRow}
+use Rattle.step_table.specs.ReadRows.{ReadRow, ToMigrations}
+use Rattle.step_table.specs.Turn.{Row, Turn, begin}
+use Rattle.shelf.specs.Rules.{Rules}
+use Rattle.step_table.specs.World.{World, Turned}
 use Rattle.shelf.proofs.Bools.{never}
 use Rattle.node_core.specs.Own.{IsEarly, OwnEntries}
 use Rattle.node_core.proofs.FailedCalls.{faulted, no_update}

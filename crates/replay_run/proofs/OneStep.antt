@@ -1,8 +1,9 @@
 -- A step of a client leads to one scene.
 use Rattle.std.proofs.Common.{◌≡◌, ◌∙◌, inl, inr, ℕ, true, false, List, Option, Some, is_some, slice_set, sym, ap, subst}
 use Rattle.shelf.specs.declared.store.Store.{Store}
-use Rattle.shelf.specs.Calls.{Call}
-use Rattle.shelf.specs.World.{Rules, World}
+use Rattle.step_table.specs.Calls.{Call}
+use Rattle.shelf.specs.Rules.{Rules}
+use Rattle.step_table.specs.World.{World}
 use Rattle.shelf.proofs.Bools.{never}
 use Rattle.replay_run.specs.Scene.{Client, Scene}
 use Rattle.replay_run.specs.Step.{Acts, Goes, Rests, Steps, at_work, behind_turn, has_work}

@@ -6,13 +6,14 @@ use Rattle.store_traits.specs.declared.update_error.UpdateError.{UpdateError}
 use Rattle.store_traits.specs.declared.update_error.UpdateError.TheVariants as error
 use Rattle.hist_journal.specs.declared.seen.BaseSeen.{BaseSeen}
 use Rattle.hist_journal.specs.declared.seen.BaseSeen.TheVariants.{Held, Corrupt, TooLong}
-use Rattle.shelf.specs.declared.progress.Progress.{Progress}
-use Rattle.shelf.specs.declared.progress.Progress.TheVariants.{Ended}
+use Rattle.step_table.specs.declared.progress.Progress.{Progress}
+use Rattle.step_table.specs.declared.progress.Progress.TheVariants.{Ended}
 use Rattle.shelf.specs.declared.store.Limits.{Limits}
 use Rattle.shelf.specs.declared.store.Store.{Store}
-use Rattle.shelf.specs.Calls.{At, Call, First, ReadingFirst, Reading, Gone, ended, is_gone}
-use Rattle.shelf.specs.Turn.{Turn, dies_now, has_died_by}
-use Rattle.shelf.specs.World.{Rules, World}
+use Rattle.step_table.specs.Calls.{At, Call, First, ReadingFirst, Reading, Gone, ended, is_gone}
+use Rattle.step_table.specs.Turn.{Turn, dies_now, has_died_by}
+use Rattle.shelf.specs.Rules.{Rules}
+use Rattle.step_table.specs.World.{World}
 use Rattle.shelf.proofs.ReadingLemmas.{one_base}
 use Rattle.replay_run.proofs.LineLemmas.{one_of}
 use Rattle.replay_run.proofs.Outcomes.{Outcome, came, turn_to}

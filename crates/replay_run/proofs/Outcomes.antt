@@ -5,11 +5,13 @@ use Rattle.store_traits.specs.declared.update_error.UpdateError.{UpdateError}
 use Rattle.folder_disk.specs.Contents.{Contents, ChangesScratch, Scratch, Kept}
 use Rattle.hist_journal.specs.declared.seen.EntrySeen.{EntrySeen}
 use Rattle.hist_journal.specs.declared.seen.KindSeen.{KindSeen}
-use Rattle.shelf.specs.declared.progress.Progress.{Progress}
-use Rattle.shelf.specs.declared.progress.Progress.TheVariants.{Moved, Ended}
-use Rattle.shelf.specs.Calls.{At, Call, ended}
-use Rattle.shelf.specs.Effects.{Does, DoesLast, Fails, Keeps, Stops, at_next, freed, with_entries}
-use Rattle.shelf.specs.World.{Turned, World}
+use Rattle.step_table.specs.declared.progress.Progress.{Progress}
+use Rattle.step_table.specs.declared.progress.Progress.TheVariants.{Moved, Ended}
+use Rattle.step_table.specs.Calls.{At, Call, ended}
+use Rattle.step_table.specs.Effects.{Does, DoesLast, Fails, Keeps, Stops, at_next}
+use Rattle.shelf.specs.Ledger.{freed}
+use Rattle.shelf.specs.Entries.{with_entries}
+use Rattle.step_table.specs.World.{Turned, World}
 use Rattle.replay_run.proofs.OwnTurns.{not_risen}
 
 -- what a turn gives, and the world and the call behind it

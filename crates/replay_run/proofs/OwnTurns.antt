@@ -16,23 +16,24 @@ use Rattle.hist_journal.specs.Folds.{edition_of}
 use Rattle.hist_journal.specs.Nodes.{is_ready}
 use Rattle.hist_journal.specs.Kinds.{is_node}
 use Rattle.hist_journal.proofs.NodeLemmas.{is_ready-push}
-use Rattle.shelf.specs.declared.progress.Progress.{Progress}
-use Rattle.shelf.specs.declared.progress.Progress.TheVariants.{Moved, Blocked, Ended}
+use Rattle.step_table.specs.declared.progress.Progress.{Progress}
+use Rattle.step_table.specs.declared.progress.Progress.TheVariants.{Moved, Blocked, Ended}
 use Rattle.shelf.specs.declared.store.Store.{Store}
-use Rattle.shelf.specs.ApplyRow.{Applies}
-use Rattle.shelf.specs.Calls.{At, First, ReadingFirst, Migrating, Finishing, Reading, Raising, Creating, Appending, SyncingScratch, Renaming, SyncingFolder, Gone, is_gone}
-use Rattle.shelf.specs.Effects.{Does, DoesLast, Fails, Stops, with_entries}
+use Rattle.step_table.specs.ApplyRow.{Applies}
+use Rattle.step_table.specs.Calls.{At, First, ReadingFirst, Migrating, Finishing, Reading, Raising, Creating, Appending, SyncingScratch, Renaming, SyncingFolder, Gone, is_gone}
+use Rattle.step_table.specs.Effects.{Does, DoesLast, Fails, Stops}
+use Rattle.shelf.specs.Entries.{with_entries, is_death}
 use Rattle.shelf.specs.Endings.{synced_kinds}
-use Rattle.shelf.specs.Entries.{is_death}
-use Rattle.shelf.specs.LastRows.{kept_edit}
-use Rattle.shelf.specs.LockRow.{Waits}
-use Rattle.shelf.specs.ReadRows.{ReadRow, ToMigrations}
-use Rattle.shelf.specs.Turn.{Row, Turn, TurnBy, begin, dies_now, has_died_by}
-use Rattle.shelf.specs.World.{Rules, World, Turned}
+use Rattle.step_table.specs.LastRows.{kept_edit}
+use Rattle.step_table.specs.LockRow.{Waits}
+use Rattle.step_table.specs.ReadRows.{ReadRow, ToMigrations}
+use Rattle.step_table.specs.Turn.{Row, Turn, TurnBy, begin, dies_now, has_died_by}
+use Rattle.shelf.specs.Rules.{Rules}
+use Rattle.step_table.specs.World.{World, Turned}
 use Rattle.shelf.proofs.Bools.{never}
 use Rattle.shelf.proofs.DeathLemmas.{has_not_died, none_of_node}
-use Rattle.shelf.proofs.GrowthLemmas.{all_added, entries_of}
-use Rattle.shelf.proofs.StepLemmas.{ended_leaves, not_freed}
+use Rattle.step_table.proofs.GrowthLemmas.{all_added, entries_of}
+use Rattle.step_table.proofs.StepLemmas.{ended_leaves, not_freed}
 use Rattle.node_core.specs.Knows.{Knows}
 use Rattle.node_core.specs.Phases.{is_finishing, is_holding}
 use Rattle.node_core.specs.Plans.{PlanAt}

@@ -9,18 +9,18 @@ use Rattle.store_traits.specs.declared.update_error.UpdateError.{UpdateError}
 use Rattle.store_traits.specs.declared.update_error.UpdateError.TheVariants as error
 use Rattle.hist_journal.specs.Folds.{edition_of}
 use Rattle.shelf.specs.declared.examples.ExampleEdit.{ExampleEdit}
-use Rattle.shelf.specs.declared.progress.Progress.{Progress}
-use Rattle.shelf.specs.declared.progress.Progress.TheVariants.{Moved, Blocked, Ended}
+use Rattle.step_table.specs.declared.progress.Progress.{Progress}
+use Rattle.step_table.specs.declared.progress.Progress.TheVariants.{Moved, Blocked, Ended}
 use Rattle.shelf.specs.declared.store.Store.{Store}
-use Rattle.shelf.specs.Calls.{At, Call, Reading, ended}
-use Rattle.shelf.specs.Effects.{freed}
+use Rattle.step_table.specs.Calls.{At, Call, Reading, ended}
+use Rattle.shelf.specs.Ledger.{freed}
 use Rattle.shelf.specs.ExampleStore.{after}
-use Rattle.shelf.specs.ExampleTurns.{rules}
-use Rattle.shelf.specs.Runs as shelf
-use Rattle.shelf.specs.Turn.{Turn, begin, dies_now, has_died_by}
-use Rattle.shelf.specs.World.{Turned, World}
+use Rattle.step_table.specs.ExampleTurns.{rules}
+use Rattle.step_table.specs.Runs as shelf
+use Rattle.step_table.specs.Turn.{Turn, begin, dies_now, has_died_by}
+use Rattle.step_table.specs.World.{Turned, World}
 use Rattle.shelf.proofs.Bools.{never}
-use Rattle.shelf.proofs.Played.{Run-computed, all_fine, scene_at}
+use Rattle.step_table.proofs.Played.{Run-computed, all_fine, scene_at}
 use Rattle.replay_run.specs.Order.{DoesAll, Does, Go, GoesTimes, Order, Task, Update, with_edit}
 use Rattle.replay_run.specs.Run.{GoesEach, IsOver, IsRun, Rounds, start_of}
 use Rattle.replay_run.specs.Scene.{Client, Scene}

@@ -12,22 +12,26 @@ use Rattle.hist_journal.specs.declared.seen.KindSeen.{KindSeen}
 use Rattle.hist_journal.specs.declared.seen.KindSeen.TheVariants.{Raise, Edit, Inited}
 use Rattle.hist_journal.specs.Folds.{edition_of}
 use Rattle.hist_journal.specs.Nodes.{is_ready}
-use Rattle.shelf.specs.declared.progress.Progress.{Progress}
-use Rattle.shelf.specs.declared.progress.Progress.TheVariants.{Moved, Blocked, Ended}
+use Rattle.step_table.specs.declared.progress.Progress.{Progress}
+use Rattle.step_table.specs.declared.progress.Progress.TheVariants.{Moved, Blocked, Ended}
 use Rattle.shelf.specs.declared.store.Limits.{Limits}
 use Rattle.shelf.specs.declared.store.Store.{Store}
-use Rattle.shelf.specs.ApplyRow.{Applies}
+use Rattle.step_table.specs.ApplyRow.{Applies}
 use Rattle.shelf.specs.Base.{ReadsAs}
-use Rattle.shelf.specs.Calls.{At, Call, First, ReadingFirst, Migrating, Finishing, Reading, Raising, Creating, Appending, SyncingScratch, Renaming, SyncingFolder, Gone, Changed, Kept, ended}
+use Rattle.step_table.specs.Calls.{At, Call, First, ReadingFirst, Migrating, Finishing, Reading, Raising, Creating, Appending, SyncingScratch, Renaming, SyncingFolder, Gone, Changed, Kept, ended}
 use Rattle.shelf.specs.Deaths.{last_death}
-use Rattle.shelf.specs.Effects.{Keeps, at_next, freed, next_place, with_entries}
+use Rattle.step_table.specs.Effects.{Keeps, at_next, next_place}
+use Rattle.shelf.specs.Ledger.{freed}
+use Rattle.shelf.specs.Entries.{with_entries}
 use Rattle.shelf.specs.Endings.{synced_kinds}
-use Rattle.shelf.specs.LastRows.{kept_edit}
-use Rattle.shelf.specs.LockRow.{IsFree, LockRow, Waits, most_entries}
-use Rattle.shelf.specs.ReadRows.{ReadRow, ToMigrations}
-use Rattle.shelf.specs.Turn.{Dies, EndsDead, EndsDying, Row, TurnBy}
-use Rattle.shelf.specs.World.{Rules, World, weight_at}
-use Rattle.shelf.specs.WriteRows.{Appends, Creates, FolderRow, Renames, SyncsScratch, filling, piece_written}
+use Rattle.step_table.specs.LastRows.{kept_edit}
+use Rattle.step_table.specs.LockRow.{IsFree, LockRow, Waits}
+use Rattle.shelf.specs.Takes.{most_entries}
+use Rattle.step_table.specs.ReadRows.{ReadRow, ToMigrations}
+use Rattle.step_table.specs.Turn.{Dies, EndsDead, EndsDying, Row, TurnBy}
+use Rattle.shelf.specs.Rules.{Rules, weight_at}
+use Rattle.step_table.specs.World.{World}
+use Rattle.step_table.specs.WriteRows.{Appends, Creates, FolderRow, Renames, SyncsScratch, filling, piece_written}
 use Rattle.node_core.specs.Views.{unwritten}
 use Rattle.replay_run.proofs.Outcomes.{Outcome, came, came_is, does_comes, ending, fails_never, going_on, last_comes, read_ends, scratch_is, stops_comes, turn_to}
 

@@ -24,7 +24,7 @@ use Rattle.shelf.specs.AddsNode.{is_among}
 use Rattle.shelf.specs.Base.{HasItsBase, ReadsAs}
 use Rattle.shelf.specs.Opening.{Opens}
 use Rattle.shelf.specs.ShelfSeen.{ShelfSeen, shelf_seen}
-use Rattle.shelf.specs.World.{World}
+use Rattle.step_table.specs.World.{World}
 use Rattle.node_core.specs.Views.{world_seen}
 use Rattle.script_lang.specs.declared.script.Script.{Script}
 use Rattle.script_lang.specs.Chronicle.{nodes_of}

@@ -4,7 +4,8 @@ use Rattle.std.specs.List.{enumerate_from}
 use Rattle.std.proofs.lemmas.List.Elements.{All-nil}
 use Rattle.store_traits.specs.declared.ids.NodeId.{NodeId}
 use Rattle.shelf.specs.declared.store.Store.{Store}
-use Rattle.shelf.specs.World.{Begins, Rules}
+use Rattle.step_table.specs.World.{Begins}
+use Rattle.shelf.specs.Rules.{Rules}
 use Rattle.shelf.proofs.LegalLemmas.{nothing_stands_in_none}
 use Rattle.replay_run.specs.ClientKeeps.{KeepsClient}
 use Rattle.replay_run.specs.Order.{Adds}

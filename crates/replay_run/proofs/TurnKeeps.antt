@@ -14,19 +14,21 @@ use Rattle.hist_journal.specs.declared.seen.KindSeen.{KindSeen}
 use Rattle.hist_journal.specs.Folds.{edition_of}
 use Rattle.hist_journal.specs.Kinds.{is_call}
 use Rattle.hist_journal.specs.Nodes.{is_ready}
-use Rattle.shelf.specs.declared.progress.Progress.{Progress}
-use Rattle.shelf.specs.declared.progress.Progress.TheVariants.{Moved, Blocked, Ended}
+use Rattle.step_table.specs.declared.progress.Progress.{Progress}
+use Rattle.step_table.specs.declared.progress.Progress.TheVariants.{Moved, Blocked, Ended}
 use Rattle.shelf.specs.declared.store.Store.{Store}
-use Rattle.shelf.specs.Calls.{At, Call, First, is_first, is_gone}
+use Rattle.step_table.specs.Calls.{At, Call, First, is_first, is_gone}
 use Rattle.shelf.specs.Entries.{is_any, is_own, is_update}
 use Rattle.shelf.specs.Meanwhile.{NoneOf}
 use Rattle.shelf.specs.Places.{is_up_to}
-use Rattle.shelf.specs.Turn.{Turn}
-use Rattle.shelf.specs.World.{Rules, Turned, World}
+use Rattle.step_table.specs.Turn.{Turn}
+use Rattle.shelf.specs.Rules.{Rules}
+use Rattle.step_table.specs.World.{Turned, World}
 use Rattle.shelf.proofs.Bools.{never}
 use Rattle.shelf.proofs.DeathLemmas.{has_not_died}
-use Rattle.shelf.proofs.GrowthLemmas.{entries_of, none_passes}
-use Rattle.shelf.proofs.StepLemmas.{itself, turn_waits, same_call}
+use Rattle.step_table.proofs.GrowthLemmas.{entries_of, none_passes}
+use Rattle.shelf.proofs.SameCalls.{itself, same_call}
+use Rattle.step_table.proofs.StepLemmas.{turn_waits}
 use Rattle.node_core.specs.Own.{IsFor}
 use Rattle.node_core.specs.Phases.{is_finishing}
 use Rattle.node_core.proofs.Acknowledging.{update_is_acknowledged}

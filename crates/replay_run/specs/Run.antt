@@ -4,7 +4,8 @@ use Rattle.std.specs.List.{enumerate_from, list_any}
 use Rattle.store_traits.specs.declared.ids.NodeId.{NodeId}
 use Rattle.folder_disk.specs.MemFolder.{fresh_contents}
 use Rattle.shelf.specs.declared.store.Store.{Store}
-use Rattle.shelf.specs.World.{Rules, World}
+use Rattle.shelf.specs.Rules.{Rules}
+use Rattle.step_table.specs.World.{World}
 use Rattle.replay_run.specs.Order.{DoesAll, Order}
 use Rattle.replay_run.specs.Scene.{Client, Scene}
 use Rattle.replay_run.specs.Step.{Goes, has_work}

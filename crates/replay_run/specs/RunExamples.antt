@@ -7,9 +7,9 @@ use Rattle.hist_journal.specs.declared.seen.KindSeen.{KindSeen}
 use Rattle.hist_journal.specs.declared.seen.KindSeen.TheVariants.{Raise, Edit, Same, Synced, Inited}
 use Rattle.shelf.specs.declared.examples.ExampleEdit.{ExampleEdit}
 use Rattle.shelf.specs.declared.examples.ExampleEdit.TheVariants.{Set, Add}
-use Rattle.shelf.specs.Effects.{with_entries}
+use Rattle.shelf.specs.Entries.{with_entries}
 use Rattle.shelf.specs.ExampleStore.{Entry, empty, holds_one, n1, n2}
-use Rattle.shelf.specs.ExampleTurns.{at_end}
+use Rattle.step_table.specs.ExampleTurns.{at_end}
 use Rattle.replay_run.specs.Order.{Order, Go, Update}
 use Rattle.replay_run.specs.Scene.{Answered, Client, Scene}
 

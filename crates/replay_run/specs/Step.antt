@@ -2,12 +2,13 @@
 use Rattle.std.specs.Prelude.{◌≡◌, ◌⊎◌, ℕ, ◌+◌, Bool, false, ◌||◌, [], ◌∷◌, ◌++◌, Option, Some, None, is_some, slice_get, slice_set, Result, Err}
 use Rattle.store_traits.specs.declared.update_error.UpdateError.{UpdateError}
 use Rattle.store_traits.specs.declared.update_error.UpdateError.TheVariants.{NoMemory}
-use Rattle.shelf.specs.Calls.{Call, First}
-use Rattle.shelf.specs.declared.progress.Progress.{Progress}
-use Rattle.shelf.specs.declared.progress.Progress.TheVariants.{Ended}
+use Rattle.step_table.specs.Calls.{Call, First}
+use Rattle.step_table.specs.declared.progress.Progress.{Progress}
+use Rattle.step_table.specs.declared.progress.Progress.TheVariants.{Ended}
 use Rattle.shelf.specs.declared.store.Store.{Store}
-use Rattle.shelf.specs.Turn.{Turn}
-use Rattle.shelf.specs.World.{Rules, World}
+use Rattle.step_table.specs.Turn.{Turn}
+use Rattle.shelf.specs.Rules.{Rules}
+use Rattle.step_table.specs.World.{World}
 use Rattle.node_core.specs.Phases.{is_finishing}
 use Rattle.replay_run.specs.Scene.{Client, Scene, call_of}
 

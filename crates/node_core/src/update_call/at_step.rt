@@ -1,5 +1,5 @@
 ghost use Rattle.std.specs.Prelude.{◌≡◌, true, if◌then◌else◌};
-ghost use Rattle.shelf.specs.Calls.{step_at};
+ghost use Rattle.step_table.specs.Calls.{step_at};
 ghost use Rattle.node_core.specs.Views.{init_seen, state_seen, write_seen};
 
 use super::{State, UpdateCall};

@@ -4,7 +4,7 @@ ghost use Rattle.hist_journal.specs.Nodes.{is_ready};
 ghost use Rattle.hist_journal.specs.Quiet.{pending};
 ghost use Rattle.store_traits.specs.declared.ids.CallId.{CallId};
 ghost use Rattle.shelf.specs.AddsNode.{is_among};
-ghost use Rattle.shelf.specs.Calls.{First, is_first, is_gone};
+ghost use Rattle.step_table.specs.Calls.{First, is_first, is_gone};
 ghost use Rattle.shelf.specs.Kept.{KeptMain};
 ghost use Rattle.shelf.specs.ShelfSeen.{shelf_seen};
 ghost use Rattle.node_core.specs.Own.{IsFor};
@@ -15,8 +15,9 @@ ghost use Rattle.node_core.specs.Views.{state_seen};
 
 use super::{State, UpdateCall};
 use crate::origin::Origin;
-use shelf::{Parts, Progress, Shelf};
+use shelf::{Parts, Shelf};
 use std::alloc::Global;
+use step_table::Progress;
 use store_traits::{CallId, UpdateError, Word};
 
 impl<P: Parts> UpdateCall<P> {

@@ -1,8 +1,8 @@
 use Rattle.std.proofs.Common.{◌≡◌, Some, refl}
 use Rattle.hist_journal.specs.declared.seen.KindSeen.TheVariants.{Synced}
 use Rattle.hist_journal.specs.Quiet.{pending}
-use Rattle.shelf.specs.Effects.{Keeps}
-use Rattle.shelf.specs.LastRows.{SyncsFolder}
+use Rattle.step_table.specs.Effects.{Keeps}
+use Rattle.step_table.specs.LastRows.{SyncsFolder}
 use Rattle.shelf.specs.ShelfSeen.{shelf_seen}
 use Rattle.shelf.proofs.Bools.{never}
 use Rattle.node_core.proofs.EarlyLemmas.{changed_ends_on}

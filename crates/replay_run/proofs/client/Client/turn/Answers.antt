@@ -3,7 +3,7 @@ use Rattle.store_traits.specs.declared.update_error.UpdateError.TheVariants.{NoM
 use Rattle.folder_disk.specs.contracts.mem_folder.MemFolderFolder.TheImpl as folder
 use Rattle.prefs_edit.specs.contracts.edit.EditTransform.TheImpl as edit
 use Rattle.prefs_proto.specs.contracts.prefs_codec.PrefsCodecCodec.TheImpl as codec
-use Rattle.shelf.specs.declared.progress.Progress.TheVariants.{Ended}
+use Rattle.step_table.specs.declared.progress.Progress.TheVariants.{Ended}
 use Rattle.shelf.specs.ShelfSeen.{shelf_seen}
 use Rattle.node_core.specs.Step.{StaysIfBlocked, TurnFrom}
 use Rattle.node_core.specs.Views.{state_seen, turned}
