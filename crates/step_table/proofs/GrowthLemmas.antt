@@ -7,22 +7,24 @@ use Rattle.store_traits.specs.declared.update_error.UpdateError.{UpdateError}
 use Rattle.store_traits.specs.declared.update_error.UpdateError.TheVariants as error
 use Rattle.file_lock.specs.Owner.{freed_node}
 use Rattle.folder_disk.specs.Contents.{Contents}
+use Rattle.folder_disk.specs.Tally.{Tally}
+use Rattle.folder_disk.specs.declared.call.FolderCall.{FolderCall}
 use Rattle.hist_journal.specs.declared.seen.EntrySeen.{EntrySeen}
 use Rattle.hist_journal.specs.declared.seen.KindSeen.{KindSeen}
 use Rattle.hist_journal.specs.declared.seen.KindSeen.TheVariants.{Raise, Fault, Death, Inited}
 use Rattle.hist_journal.specs.declared.device.Device.TheVariants.{Folder}
 use Rattle.hist_journal.specs.Kinds.{is_call}
 use Rattle.shelf.specs.declared.store.Store.{Store}
+use Rattle.shelf.specs.Entries.{with_entries}
+use Rattle.shelf.specs.Ledger.{freed}
+use Rattle.shelf.specs.Rules.{Rules}
 use Rattle.step_table.specs.ApplyRow.{Applies}
 use Rattle.step_table.specs.Calls.{At, First, ReadingFirst, Migrating, Finishing, Reading, Raising, Creating, Appending, SyncingScratch, Renaming, SyncingFolder, is_gone}
 use Rattle.step_table.specs.Effects.{Fails, Stops, Does, DoesLast}
-use Rattle.shelf.specs.Entries.{with_entries}
-use Rattle.shelf.specs.Ledger.{freed}
 use Rattle.step_table.specs.declared.progress.Progress.{Progress}
 use Rattle.step_table.specs.declared.progress.Progress.TheVariants.{Moved, Blocked, Ended}
 use Rattle.step_table.specs.ReadRows.{ReadRow, ToMigrations}
 use Rattle.step_table.specs.Turn.{EndsDead, EndsDying, Row, TurnBy, Turn, begin, has_died_by, dies_now, Dies}
-use Rattle.shelf.specs.Rules.{Rules}
 use Rattle.step_table.specs.World.{World, Turned}
 
 -- whoever owns the lock once some calls are freed owned it before
@@ -80,14 +82,14 @@ module _ {V T : Type 0} where
     frees_owner : (kinds : List (KindSeen V T)) (now : World V T) → t.world_after ≡ now → now.history ≡ with_entries t.call.id kinds t.world.history → now.told ≡ t.world.told → now.owner ≡ freed t.call.id t.world.owner → IsOwn
     frees_owner kinds now is added told owner = own_with kinds now is added told (λ other owns unlike. freed_was t.call.id other t.world.owner (sym owner ∙ owns))
 
-    does_own : {Makes : Contents → Contents → Type 0} {kinds : List (KindSeen V T)} {at : At V T} → Does t Makes kinds at → IsOwn
+    does_own : {asked : FolderCall} {Makes : Contents → Contents → Type 0} {kinds : List (KindSeen V T)} {at : At V T} → Does t asked Makes kinds at → IsOwn
     does_own {kinds = kinds} it = keeps_owner kinds _ it.world refl refl refl
 
-    last_own : {Makes : Contents → Contents → Type 0} {kinds : List (KindSeen V T)} → DoesLast t Makes kinds → IsOwn
+    last_own : {Asks : Tally → Tally → Type 0} {Makes : Contents → Contents → Type 0} {kinds : List (KindSeen V T)} → DoesLast t Asks Makes kinds → IsOwn
     last_own {kinds = kinds} it = frees_owner kinds _ it.world refl refl refl
 
-    fails_own : {Part : Contents → Contents → Type 0} → Fails t Part → IsOwn
-    fails_own it = frees_owner (Fault Folder t.world_after.faults ∷ []) _ it.world refl refl refl
+    fails_own : {asked : FolderCall} {Part : Contents → Contents → Type 0} → Fails t asked Part → IsOwn
+    fails_own it = frees_owner (Fault Folder t.world_after.tally.count ∷ []) _ it.world refl refl refl
 
     stops_own : Stops t → IsOwn
     stops_own it = frees_owner [] _ it.world refl refl refl

@@ -1,3 +1,4 @@
 pub mod GrowthLemmas
 pub mod Played
 pub mod StepLemmas
+pub mod Tallied

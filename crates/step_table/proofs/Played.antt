@@ -1,5 +1,5 @@
 -- A run of the small store that is written down is shown to follow the table by computing it.
-use Rattle.std.proofs.Common.{◌≡◌, inl, inr, ◌≤◌, ℕ, ◌+◌, ◌==◌, nat_lt, nat_le, Bool, true, false, ◌&&◌, not, List, [], ◌∷◌, ◌++◌, Option, Some, None, refl, arith, length, slice_get, slice_set, if◌then◌else◌, Result, Ok, Err}
+use Rattle.std.proofs.Common.{◌≡◌, inl, inr, ◌≤◌, ℕ, ◌+◌, ◌==◌, nat_lt, nat_le, ◌-◌, ◌^◌, Bool, true, false, ◌&&◌, not, List, [], ◌∷◌, ◌++◌, Option, Some, None, refl, arith, length, slice_get, slice_set, if◌then◌else◌, Result, Ok, Err}
 use Rattle.std.proofs.lemmas.Bool.Decides.{nat_tests}
 use Rattle.std.proofs.lemmas.Bool.{eqb-true, and_parts, not-true, eqb-false}
 use Rattle.store_traits.specs.declared.applied.Applied.{Applied}
@@ -9,6 +9,10 @@ use Rattle.store_traits.specs.declared.update_error.UpdateError.{UpdateError}
 use Rattle.store_traits.specs.declared.update_error.UpdateError.TheVariants.{Died, NotDurable, StorageFault}
 use Rattle.file_lock.specs.Owner.{IsAnother, freed_node}
 use Rattle.folder_disk.specs.Contents.{Unsynced, Synced, scratch_bytes, renamed, folder_synced}
+use Rattle.folder_disk.specs.Due.{one_more}
+use Rattle.folder_disk.specs.Due as plan
+use Rattle.folder_disk.specs.declared.call.FolderCall.{FolderCall}
+use Rattle.folder_disk.specs.declared.call.FolderCall.TheVariants.{ReadMain, Create, Append, SyncScratch, Rename, SyncFolder}
 use Rattle.hist_journal.specs.declared.device.Device.TheVariants.{Folder}
 use Rattle.hist_journal.specs.declared.seen.BaseSeen.TheVariants.{Held}
 use Rattle.hist_journal.specs.declared.seen.KindSeen.TheVariants.{Raise, Fault, Death, Inited}
@@ -17,27 +21,28 @@ use Rattle.hist_journal.specs.Kinds.{is_call}
 use Rattle.scratch_rename.specs.Filling.{next_piece}
 use Rattle.shelf.specs.declared.examples.ExampleEdit.{ExampleEdit}
 use Rattle.shelf.specs.declared.store.Store.{Store}
-use Rattle.step_table.specs.ApplyRow.{new_plan, Applies}
-use Rattle.step_table.specs.Calls.{is_gone, At, Call, Changed as ChangedAt, Kept, First, ReadingFirst, Migrating, Finishing, Reading, Raising, Creating, Appending, SyncingScratch, Renaming, SyncingFolder, ended}
 use Rattle.shelf.specs.Deaths.{last_death, used_up}
-use Rattle.step_table.specs.Effects.{at_next, next_place, is_ready_now}
 use Rattle.shelf.specs.Ledger.{freed}
 use Rattle.shelf.specs.Entries.{with_entries}
 use Rattle.shelf.specs.Base.{ReadsAs}
 use Rattle.shelf.specs.ExampleStore.{after, reads}
-use Rattle.step_table.specs.ExampleTurns.{rules}
 use Rattle.shelf.specs.Endings.{synced_kinds}
-use Rattle.step_table.specs.LastRows.{kept_edit, told_place}
 use Rattle.shelf.specs.Takes.{most_entries}
+use Rattle.shelf.specs.Rules.{weight_at}
+use Rattle.shelf.proofs.Bools.{never}
+use Rattle.shelf.proofs.SameCalls.{itself}
+use Rattle.step_table.specs.ApplyRow.{new_plan, Applies}
+use Rattle.step_table.specs.Calls.{is_gone, At, Call, Changed as ChangedAt, Kept, First, ReadingFirst, Migrating, Finishing, Reading, Raising, Creating, Appending, SyncingScratch, Renaming, SyncingFolder, ended}
+use Rattle.step_table.specs.Effects.{at_next, next_place, is_ready_now}
+use Rattle.step_table.specs.ExampleTurns.{rules}
+use Rattle.step_table.specs.LastRows.{kept_edit, told_place}
 use Rattle.step_table.specs.declared.progress.Progress.{Progress}
 use Rattle.step_table.specs.declared.progress.Progress.TheVariants.{Moved, Blocked, Ended}
 use Rattle.step_table.specs.Runs.{Did, Scene, Goes, Run}
 use Rattle.step_table.specs.Turn.{Row, TurnBy, begin, step_of, has_died_by, dies_now}
 use Rattle.step_table.specs.World.{World, Turned}
-use Rattle.shelf.specs.Rules.{weight_at}
 use Rattle.step_table.specs.WriteRows.{filling, piece_written}
-use Rattle.shelf.proofs.Bools.{never}
-use Rattle.shelf.proofs.SameCalls.{itself}
+use Rattle.step_table.proofs.Tallied.{failed_so, has_failed, well_so, went_well}
 
 -- another call owns the lock
 abbrev is_other : Option CallId → CallId → Bool
@@ -81,6 +86,10 @@ abbrev is_place : Option ℕ → ℕ → Bool
 is_place None place = false
 is_place (Some last) place = last == place
 
+abbrev is_as : Bool → Bool → Bool
+is_as true is = is
+is_as false is = not is
+
 module _ (s : Store ℕ (Unit {0})) where
   module _ (w : World ℕ ExampleEdit) (c : Call ℕ ExampleEdit) where
     abbrev before : Turned ℕ ExampleEdit
@@ -92,21 +101,32 @@ module _ (s : Store ℕ (Unit {0})) where
     abbrev new_value : ExampleEdit → ℕ
     new_value edit = new_number old_number (after edit old_number)
 
-    abbrev failed : World ℕ ExampleEdit
-    failed = record w { faults = w.faults + 1; history = with_entries c.id (Fault Folder (w.faults + 1) ∷ []) w.history; owner = freed c.id w.owner }
+    -- a call of the folder goes well, or fails, as that is due
+    abbrev is_due : Bool → FolderCall → Bool
+    is_due fails asked = is_as fails (plan.fails asked w.tally.due) && nat_lt w.tally.count (2 ^ 64 - 1)
+
+    -- the tally then
+    abbrev asks : FolderCall → World ℕ ExampleEdit
+    asks asked = record w { tally = went_well asked w.tally }
+
+    abbrev failed : FolderCall → World ℕ ExampleEdit
+    failed asked =
+        record w { tally = has_failed asked w.tally; history = with_entries c.id (Fault Folder (one_more w.tally.count) ∷ []) w.history; owner = freed c.id w.owner }
 
     -- the world once the call at this step went on, waited or failed
     abbrev world_then : At ℕ ExampleEdit → Progress (Result ℕ UpdateError) → World ℕ ExampleEdit
     world_then (First edit) Moved = record w { owner = Some c.id }
     world_then (Finishing edit) Moved = record w { history = with_entries c.id (Inited c.id.node ∷ []) w.history; owner = freed c.id w.owner }
     world_then (Raising plan) Moved = record w { version = w.version + 1; history = with_entries c.id (Raise ∷ []) w.history }
-    world_then (Creating plan) Moved = record w { folder = record w.folder { scratch = Unsynced [] } }
-    world_then (Appending plan) Moved = record w { folder = record w.folder { scratch = Unsynced (scratch_bytes w.folder.scratch ++ next_piece plan.text) } }
-    world_then (SyncingScratch plan) Moved = record w { folder = record w.folder { scratch = Synced (scratch_bytes w.folder.scratch) } }
-    world_then (Renaming plan) Moved = record w { folder = renamed w.folder; history = with_entries c.id (plan.change ∷ []) w.history }
-    world_then (Renaming plan) (Ended answer) = failed
-    world_then (SyncingFolder ending) (Ended (Err error)) = failed
-    world_then (SyncingFolder ending) (Ended answer) = record w { folder = folder_synced w.folder; history = with_entries c.id (synced_kinds (kept_edit ending)) w.history; owner = freed c.id w.owner }
+    world_then (ReadingFirst edit) Moved = asks ReadMain
+    world_then (Reading edit) Moved = asks ReadMain
+    world_then (Creating plan) Moved = record (asks Create) { folder = record w.folder { scratch = Unsynced [] } }
+    world_then (Appending plan) Moved = record (asks Append) { folder = record w.folder { scratch = Unsynced (scratch_bytes w.folder.scratch ++ next_piece plan.text) } }
+    world_then (SyncingScratch plan) Moved = record (asks SyncScratch) { folder = record w.folder { scratch = Synced (scratch_bytes w.folder.scratch) } }
+    world_then (Renaming plan) Moved = record (asks Rename) { folder = renamed w.folder; history = with_entries c.id (plan.change ∷ []) w.history }
+    world_then (Renaming plan) (Ended answer) = failed Rename
+    world_then (SyncingFolder ending) (Ended (Err error)) = failed SyncFolder
+    world_then (SyncingFolder ending) (Ended answer) = record (asks SyncFolder) { folder = folder_synced w.folder; history = with_entries c.id (synced_kinds (kept_edit ending)) w.history; owner = freed c.id w.owner }
     world_then at gave = w
 
     abbrev applied_at : ExampleEdit → At ℕ ExampleEdit
@@ -137,18 +157,18 @@ module _ (s : Store ℕ (Unit {0})) where
     abbrev is_fine : At ℕ ExampleEdit → Progress (Result ℕ UpdateError) → Bool
     is_fine (First edit) Blocked = is_other w.owner c.id
     is_fine (First edit) Moved = is_nobody w.owner && is_open
-    is_fine (ReadingFirst edit) Moved = is_number w.folder.main && nat_le 1 s.limits.file
+    is_fine (ReadingFirst edit) Moved = is_due false ReadMain && (is_number w.folder.main && nat_le 1 s.limits.file)
     is_fine (Migrating edit value) Moved = true
     is_fine (Finishing edit) Moved = true
-    is_fine (Reading edit) Moved = is_applied edit
+    is_fine (Reading edit) Moved = is_due false ReadMain && is_applied edit
     is_fine (Raising plan) Moved = true
-    is_fine (Creating plan) Moved = true
-    is_fine (Appending plan) Moved = true
-    is_fine (SyncingScratch plan) Moved = true
-    is_fine (Renaming plan) Moved = true
-    is_fine (Renaming plan) (Ended (Err (StorageFault place))) = place == next_place w
-    is_fine (SyncingFolder ending) (Ended (Ok edition)) = edition == edition_of w.history
-    is_fine (SyncingFolder ending) (Ended (Err (NotDurable place))) = place == told_place (next_place w) ending
+    is_fine (Creating plan) Moved = is_due false Create
+    is_fine (Appending plan) Moved = is_due false Append
+    is_fine (SyncingScratch plan) Moved = is_due false SyncScratch
+    is_fine (Renaming plan) Moved = is_due false Rename
+    is_fine (Renaming plan) (Ended (Err (StorageFault place))) = is_due true Rename && (place == next_place w)
+    is_fine (SyncingFolder ending) (Ended (Ok edition)) = is_due false SyncFolder && (edition == edition_of w.history)
+    is_fine (SyncingFolder ending) (Ended (Err (NotDurable place))) = is_due true SyncFolder && (place == told_place (next_place w) ending)
     is_fine at gave = false
 
     abbrev turned : At ℕ ExampleEdit → Progress (Result ℕ UpdateError) → Turned ℕ ExampleEdit
@@ -203,25 +223,25 @@ module _ (s : Store ℕ (Unit {0})) (none : s.migrations ≡ []) where
         record {
           world = w;
           call = c;
-          world_after = w;
+          world_after = asks s w c ReadMain;
           call_after = at_next 0 (if same then SyncingFolder (Kept edit) else Raising (new_plan rules s (before s w c) edit (new_value s w c edit))) c;
         }
 
-    applied_so : (edit : ExampleEdit) (same : Bool) → (new_value s w c edit == old_number s w c) ≡ same → is_changed (after edit (old_number s w c)) ≡ true → 1 ≤ s.limits.file
+    applied_so : (edit : ExampleEdit) (same : Bool) → (new_value s w c edit == old_number s w c) ≡ same → is_changed (after edit (old_number s w c)) ≡ true → 1 ≤ s.limits.file → is_due s w c false ReadMain ≡ true
         → Applies rules s (applied_by edit same) edit (old_number s w c) Moved
-    applied_so edit true is changed fits =
+    applied_so edit true is changed fits due =
         let equal : new_value s w c edit ≡ old_number s w c = eqb-true (new_value s w c edit) (old_number s w c) is in
         let makes : after edit (old_number s w c) ≡ Changed (new_value s w c edit) = changed_to (old_number s w c) (after edit (old_number s w c)) changed in
         inr (record {
           same = record { old = old_number s w c; held = refl; makes = rw equal at makes };
-          goes_on = record { folder = λ is_told. refl; faults = omega arith; world = refl; call = refl };
+          goes_on = record { folder = λ is_told. refl; tally = well_so w.told ReadMain w.tally due; world = refl; call = refl };
         })
-    applied_so edit false is changed fits =
+    applied_so edit false is changed fits due =
         let makes : after edit (old_number s w c) ≡ Changed (new_value s w c edit) = changed_to (old_number s w c) (after edit (old_number s w c)) changed in
         inl (record {
           change = record { old = old_number s w c; new = new_value s w c edit; held = refl; makes = makes; differs = eqb-false (new_value s w c edit) (old_number s w c) is };
           fits = fits;
-          goes_on = record { folder = λ is_told. refl; faults = omega arith; world = refl; call = refl };
+          goes_on = record { folder = λ is_told. refl; tally = well_so w.told ReadMain w.tally due; world = refl; call = refl };
         })
 
     row_so : (at : At ℕ ExampleEdit) (gave : Progress (Result ℕ UpdateError)) → is_fine s w c at gave ≡ true → Row rules s at (turned s w c at gave) gave
@@ -238,49 +258,59 @@ module _ (s : Store ℕ (Unit {0})) (none : s.migrations ≡ []) where
           call = refl;
         }
     row_so (ReadingFirst edit) Moved is =
-        let parts = and_parts (is_number w.folder.main) (nat_le 1 s.limits.file) is in
+        let asked = and_parts (is_due s w c false ReadMain) (is_number w.folder.main && nat_le 1 s.limits.file) is in
+        let parts = and_parts (is_number w.folder.main) (nat_le 1 s.limits.file) asked.1 in
         let limit : nat_le 1 s.limits.file ≡ true = parts.1 in
         record {
           value = old_number s w c;
           read = λ is_told. reads_so s.limits.file w.folder.main parts.0 (grind (arith, nat_tests, limit));
-          then = record { folder = λ is_told. refl; faults = omega arith; world = refl; call = refl };
+          then = record { folder = λ is_told. refl; tally = well_so w.told ReadMain w.tally asked.0; world = refl; call = refl };
         }
     row_so (Migrating edit value) Moved is = (none, record { world = refl; call = refl })
     row_so (Finishing edit) Moved is = record { world = refl; call = refl }
     row_so (Reading edit) Moved is =
-        let parts = and_parts (is_number w.folder.main) (is_changed (after edit (old_number s w c)) && nat_le 1 s.limits.file) is in
+        let asked = and_parts (is_due s w c false ReadMain) (is_applied s w c edit) is in
+        let parts = and_parts (is_number w.folder.main) (is_changed (after edit (old_number s w c)) && nat_le 1 s.limits.file) asked.1 in
         let more = and_parts (is_changed (after edit (old_number s w c))) (nat_le 1 s.limits.file) parts.1 in
         let limit : nat_le 1 s.limits.file ≡ true = more.1 in
         let fits : 1 ≤ s.limits.file = grind (arith, nat_tests, limit) in
         record {
           value = old_number s w c;
           read = λ is_told. reads_so s.limits.file w.folder.main parts.0 fits;
-          then = applied_so edit (new_value s w c edit == old_number s w c) refl more.0 fits;
+          then = applied_so edit (new_value s w c edit == old_number s w c) refl more.0 fits asked.0;
         }
     row_so (Raising plan) Moved is = record { world = refl; call = refl }
     row_so (Creating plan) Moved is =
-        record { folder = λ is_told. record { main = refl; kept = refl; first = refl; alone = refl; scratch = refl }; faults = omega arith; world = refl; call = refl }
+        record {
+          folder = λ is_told. record { main = refl; kept = refl; first = refl; alone = refl; scratch = refl };
+          tally = well_so w.told Create w.tally is;
+          world = refl;
+          call = refl;
+        }
     row_so (Appending plan) Moved is =
         record {
           folder = λ is_told. record { main = refl; kept = refl; first = refl; alone = refl; scratch = refl };
-          faults = omega arith;
+          tally = well_so w.told Append w.tally is;
           world = refl;
           call = refl;
         }
     row_so (SyncingScratch plan) Moved is =
         record {
           folder = λ is_told. record { main = refl; kept = refl; first = refl; alone = refl; scratch = refl };
-          faults = omega arith;
+          tally = well_so w.told SyncScratch w.tally is;
           world = refl;
           call = refl;
         }
-    row_so (Renaming plan) Moved is = record { folder = λ is_told. refl; faults = omega arith; world = refl; call = refl }
+    row_so (Renaming plan) Moved is = record { folder = λ is_told. refl; tally = well_so w.told Rename w.tally is; world = refl; call = refl }
     row_so (Renaming plan) (Ended (Err (StorageFault place))) is =
-        (eqb-true place (next_place w) is, record { folder = λ is_told. refl; count = inl (omega arith); world = refl; call = refl })
+        let parts = and_parts (is_due s w c true Rename) (place == next_place w) is in
+        (eqb-true place (next_place w) parts.1, record { folder = λ is_told. refl; tally = failed_so w.told Rename w.tally parts.0; world = refl; call = refl })
     row_so (SyncingFolder ending) (Ended (Ok edition)) is =
-        (eqb-true edition (edition_of w.history) is, record { folder = λ is_told. refl; faults = omega arith; world = refl; call = refl })
+        let parts = and_parts (is_due s w c false SyncFolder) (edition == edition_of w.history) is in
+        (eqb-true edition (edition_of w.history) parts.1, record { folder = λ is_told. refl; tally = well_so w.told SyncFolder w.tally parts.0; world = refl; call = refl })
     row_so (SyncingFolder ending) (Ended (Err (NotDurable place))) is =
-        (eqb-true place (told_place (next_place w) ending) is, record { folder = λ is_told. refl; count = inl (omega arith); world = refl; call = refl })
+        let parts = and_parts (is_due s w c true SyncFolder) (place == told_place (next_place w) ending) is in
+        (eqb-true place (told_place (next_place w) ending) parts.1, record { folder = λ is_told. refl; tally = failed_so w.told SyncFolder w.tally parts.0; world = refl; call = refl })
     row_so at gave is = never is
 
     by_so : (gone died dies : Bool) (gave : Progress (Result ℕ UpdateError)) → fine_by s w c gone died dies gave ≡ true → TurnBy rules s gone died dies (turned_by s w c died dies gave) gave

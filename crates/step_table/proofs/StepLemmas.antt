@@ -7,22 +7,24 @@ use Rattle.store_traits.specs.declared.update_error.UpdateError.TheVariants.{His
 use Rattle.store_traits.specs.declared.update_error.UpdateError.TheVariants as error
 use Rattle.file_lock.specs.Owner.{IsAnother, freed_node}
 use Rattle.folder_disk.specs.Contents.{Contents}
+use Rattle.folder_disk.specs.Tally.{Tally}
+use Rattle.folder_disk.specs.declared.call.FolderCall.{FolderCall}
 use Rattle.hist_journal.specs.declared.seen.KindSeen.{KindSeen}
 use Rattle.hist_journal.specs.Kinds.{is_call}
 use Rattle.shelf.specs.declared.store.Store.{Store}
+use Rattle.shelf.specs.Ledger.{freed}
+use Rattle.shelf.specs.Rules.{Rules}
+use Rattle.shelf.proofs.Bools.{never}
+use Rattle.shelf.proofs.SameCalls.{itself}
 use Rattle.step_table.specs.ApplyRow.{Applies}
 use Rattle.step_table.specs.Calls.{At, First, ReadingFirst, Migrating, Finishing, Reading, Raising, Creating, Appending, SyncingScratch, Renaming, SyncingFolder, Gone, ended, is_first, is_gone}
 use Rattle.step_table.specs.Effects.{DoesLast, Fails, Stops}
-use Rattle.shelf.specs.Ledger.{freed}
 use Rattle.step_table.specs.LockRow.{LockRow, Waits}
 use Rattle.step_table.specs.declared.progress.Progress.{Progress}
 use Rattle.step_table.specs.declared.progress.Progress.TheVariants.{Moved, Blocked, Ended}
 use Rattle.step_table.specs.ReadRows.{ReadRow, ToMigrations}
 use Rattle.step_table.specs.Turn.{EndsDying, Row, TurnBy, Turn, begin, has_died_by, dies_now}
-use Rattle.shelf.specs.Rules.{Rules}
 use Rattle.step_table.specs.World.{World, Turned}
-use Rattle.shelf.proofs.Bools.{never}
-use Rattle.shelf.proofs.SameCalls.{itself}
 
 -- a call that is freed owns nothing
 freed_by : (own : Bool) (call owner : CallId) → is_call call owner ≡ own → (if own then None else Some owner) ≡ Some call → ⊥
@@ -137,10 +139,10 @@ module _ {V T M : Type 0} (r : Rules V T) (s : Store V M) where
   stops_leave : (t : Turned V T) → Stops t → Leaves t
   stops_leave t it = leaves_freed t it.call (ap (λ (w : World V T). w.owner) it.world)
 
-  last_leaves : {Makes : Contents → Contents → Type 0} {kinds : List (KindSeen V T)} (t : Turned V T) → DoesLast t Makes kinds → Leaves t
+  last_leaves : {Asks : Tally → Tally → Type 0} {Makes : Contents → Contents → Type 0} {kinds : List (KindSeen V T)} (t : Turned V T) → DoesLast t Asks Makes kinds → Leaves t
   last_leaves t it = leaves_freed t it.call (ap (λ (w : World V T). w.owner) it.world)
 
-  fails_leave : {Part : Contents → Contents → Type 0} (t : Turned V T) → Fails t Part → Leaves t
+  fails_leave : {asked : FolderCall} {Part : Contents → Contents → Type 0} (t : Turned V T) → Fails t asked Part → Leaves t
   fails_leave t it = leaves_freed t it.call (ap (λ (w : World V T). w.owner) it.world)
 
   read_leaves : (Then : V → Progress (Result ℕ UpdateError) → Type 0) (t : Turned V T) (answer : Result ℕ UpdateError)

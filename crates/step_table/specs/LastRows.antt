@@ -1,15 +1,17 @@
 -- I6 and U8: the turns that free the lock.
-use Rattle.std.specs.Prelude.{◌≡◌, ℕ, [], ◌∷◌, Option, Some, None, Result, Ok, Err}
+use Rattle.std.specs.Prelude.{◌≡◌, ℕ, false, [], ◌∷◌, Option, Some, None, Result, Ok, Err}
 use Rattle.store_traits.specs.declared.update_error.UpdateError.{UpdateError}
 use Rattle.store_traits.specs.declared.update_error.UpdateError.TheVariants.{NotDurable}
+use Rattle.folder_disk.specs.Contents.{Contents, folder_synced}
+use Rattle.folder_disk.specs.Tally.{Tallies}
+use Rattle.folder_disk.specs.declared.call.FolderCall.TheVariants.{SyncFolder}
 use Rattle.hist_journal.specs.declared.seen.KindSeen.TheVariants.{Inited}
 use Rattle.hist_journal.specs.Folds.{edition_of}
-use Rattle.folder_disk.specs.Contents.{Contents, folder_synced}
-use Rattle.step_table.specs.Calls.{Ending, Changed, Kept, First}
 use Rattle.shelf.specs.Endings.{synced_kinds}
-use Rattle.step_table.specs.Effects.{DoesLast, Fails, Keeps, at_next, next_place}
 use Rattle.shelf.specs.Ledger.{freed}
 use Rattle.shelf.specs.Entries.{with_entries}
+use Rattle.step_table.specs.Calls.{Ending, Changed, Kept, First}
+use Rattle.step_table.specs.Effects.{DoesLast, Fails, Keeps, at_next, next_place}
 use Rattle.step_table.specs.declared.progress.Progress.{Progress}
 use Rattle.step_table.specs.declared.progress.Progress.TheVariants.{Moved, Ended}
 use Rattle.step_table.specs.World.{Turned}
@@ -42,6 +44,6 @@ module _ {V T : Type 0} (t : Turned V T) where
   FinishRow edit other = ⊥
 
   abbrev pub SyncFolderRow : Ending T → Progress (Result ℕ UpdateError) → Type 0
-  SyncFolderRow ending (Ended (Ok edition)) = (edition ≡ edition_of t.world.history) × DoesLast t SyncsFolder (synced_kinds (kept_edit ending))
-  SyncFolderRow ending (Ended (Err (NotDurable place))) = (place ≡ told_place (next_place t.world) ending) × Fails t Keeps
+  SyncFolderRow ending (Ended (Ok edition)) = (edition ≡ edition_of t.world.history) × DoesLast t (Tallies t.world.told SyncFolder false) SyncsFolder (synced_kinds (kept_edit ending))
+  SyncFolderRow ending (Ended (Err (NotDurable place))) = (place ≡ told_place (next_place t.world) ending) × Fails t SyncFolder Keeps
   SyncFolderRow ending other = ⊥

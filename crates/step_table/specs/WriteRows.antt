@@ -2,13 +2,15 @@
 use Rattle.std.specs.Prelude.{◌≡◌, ◌+◌, ℕ, List, [], ◌∷◌, ◌++◌, length, if◌then◌else◌, Result, Err, ◌==◌}
 use Rattle.store_traits.specs.declared.update_error.UpdateError.{UpdateError}
 use Rattle.store_traits.specs.declared.update_error.UpdateError.TheVariants.{StorageFault}
+use Rattle.folder_disk.specs.declared.call.FolderCall.{FolderCall}
+use Rattle.folder_disk.specs.declared.call.FolderCall.TheVariants.{Create, Append, SyncScratch, Rename}
+use Rattle.folder_disk.specs.Contents.{Contents, Unsynced, Synced, scratch_bytes, ChangesScratch, LoosensScratch, renamed}
 use Rattle.hist_journal.specs.declared.seen.KindSeen.{KindSeen}
 use Rattle.hist_journal.specs.declared.seen.KindSeen.TheVariants.{Raise}
-use Rattle.folder_disk.specs.Contents.{Contents, Unsynced, Synced, scratch_bytes, ChangesScratch, LoosensScratch, renamed}
 use Rattle.scratch_rename.specs.Filling.{next_piece, filled_more}
+use Rattle.shelf.specs.Entries.{with_entries}
 use Rattle.step_table.specs.Calls.{At, Changed, Plan, Creating, Appending, SyncingScratch, Renaming, SyncingFolder}
 use Rattle.step_table.specs.Effects.{Does, Fails, Keeps, at_next, next_place}
-use Rattle.shelf.specs.Entries.{with_entries}
 use Rattle.step_table.specs.declared.progress.Progress.{Progress}
 use Rattle.step_table.specs.declared.progress.Progress.TheVariants.{Moved, Ended}
 use Rattle.step_table.specs.World.{Turned}
@@ -36,10 +38,10 @@ module _ {V T : Type 0} where
 
 module _ {V T : Type 0} (t : Turned V T) where
   -- a folder call that goes well or fails: what it makes of the folder, which entries the turn adds then, and what comes next; and what a failure leaves
-  abbrev pub FolderRow : (Contents → Contents → Type 0) → List (KindSeen V T) → At V T → (Contents → Contents → Type 0) → Progress (Result ℕ UpdateError) → Type 0
-  FolderRow Makes kinds at Leaves Moved = Does t Makes kinds at
-  FolderRow Makes kinds at Leaves (Ended (Err (StorageFault place))) = (place ≡ next_place t.world) × Fails t Leaves
-  FolderRow Makes kinds at Leaves other = ⊥
+  abbrev pub FolderRow : FolderCall → (Contents → Contents → Type 0) → List (KindSeen V T) → At V T → (Contents → Contents → Type 0) → Progress (Result ℕ UpdateError) → Type 0
+  FolderRow asked Makes kinds at Leaves Moved = Does t asked Makes kinds at
+  FolderRow asked Makes kinds at Leaves (Ended (Err (StorageFault place))) = (place ≡ next_place t.world) × Fails t asked Leaves
+  FolderRow asked Makes kinds at Leaves other = ⊥
 
   -- the version word and the history are raised together
   pub record Raises (plan : Plan V T) : Type 0 where
@@ -51,13 +53,13 @@ module _ {V T : Type 0} (t : Turned V T) where
   RaiseRow plan other = ⊥
 
   abbrev pub CreateRow : Plan V T → Progress (Result ℕ UpdateError) → Type 0
-  CreateRow plan = FolderRow Creates [] (filling plan) LoosensScratch
+  CreateRow plan = FolderRow Create Creates [] (filling plan) LoosensScratch
 
   abbrev pub AppendRow : Plan V T → Progress (Result ℕ UpdateError) → Type 0
-  AppendRow plan = FolderRow (Appends (next_piece plan.text)) [] (filling (piece_written plan)) LoosensScratch
+  AppendRow plan = FolderRow Append (Appends (next_piece plan.text)) [] (filling (piece_written plan)) LoosensScratch
 
   abbrev pub SyncScratchRow : Plan V T → Progress (Result ℕ UpdateError) → Type 0
-  SyncScratchRow plan = FolderRow SyncsScratch [] (Renaming plan) LoosensScratch
+  SyncScratchRow plan = FolderRow SyncScratch SyncsScratch [] (Renaming plan) LoosensScratch
 
   abbrev pub RenameRow : Plan V T → Progress (Result ℕ UpdateError) → Type 0
-  RenameRow plan = FolderRow Renames (plan.change ∷ []) (SyncingFolder (Changed (next_place t.world))) Keeps
+  RenameRow plan = FolderRow Rename Renames (plan.change ∷ []) (SyncingFolder (Changed (next_place t.world))) Keeps
