@@ -33,6 +33,13 @@ impl<P: Parts> InitCall<P> {
             InitCall::Finish => finish(origin, shelf),
         }
     }
+
+    /// The step ends the initialisation.
+    pub fn is_last(&self) -> bool
+        ensures { result ≡ is_last self.now }
+    {
+        matches!(self, InitCall::Finish)
+    }
 }
 
 fn read_first<P: Parts>(origin: Origin, alloc: Global, shelf: &mut Shelf<P>) -> Initialised<P>

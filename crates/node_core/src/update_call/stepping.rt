@@ -14,6 +14,7 @@ ghost use Rattle.node_core.specs.Views.{init_seen, state_seen, write_seen};
 use super::{State, UpdateCall};
 use crate::applying::apply;
 use crate::init_call::{InitCall, Initialised};
+use crate::origin::Origin;
 use crate::read_errors::as_update_error;
 use crate::read_held::read_held;
 use crate::write_call::{WriteCall, Written};
@@ -48,219 +49,227 @@ impl<P: Parts> UpdateCall<P> {
         ensures origin { self.new.origin ≡ self.old.origin }
         ensures initialised { self.new.initialised ≡ (self.old.initialised || is_finishing (state_seen self.old.state)) }
     {
-        match mem::replace(&mut self.state, State::Gone) {
-            State::First { edit } => self.take(alloc, shelf, edit),
-            State::Initialise { edit, init } => self.initialise(alloc, shelf, edit, init),
-            State::Read { edit } => self.read(alloc, shelf, edit),
-            State::Write { write } => self.write(shelf, word, write),
-            State::SyncChanged { at } => self.sync_changed(shelf, at),
-            State::SyncKept { edit } => self.sync_kept(shelf, edit),
+        let state = mem::replace(&mut self.state, State::Gone);
+        self.initialised = self.initialised || state.is_finishing();
+        let (state, progress) = state.step(self.origin, alloc, shelf, word);
+        self.state = state;
+        progress
+    }
+}
+
+impl<P: Parts> State<P> {
+    /// The next step: the state behind it, and how far the call is.
+    fn step<W: Word>(
+        self,
+        origin: Origin,
+        alloc: Global,
+        shelf: &mut Shelf<P>,
+        word: &mut W,
+    ) -> (State<P>, Progress<Result<u64, UpdateError>>)
+        requires running { is_gone (state_seen self) ≡ false }
+        requires word { W.ready (W.made word.old) }
+        requires number { W.number word.old ≡ raises_of (shelf_seen shelf.old).list }
+        requires node { is_among origin.call.node (shelf_seen shelf.old).store.nodes ≡ true }
+        requires ready { Ready P.C.Codec P.T.Transform P.F.Folder origin (state_seen self) (shelf_seen shelf.old) }
+        requires lives { is_dead origin.call.node (shelf_seen shelf.old).list ≡ false }
+        ensures row { RowFrom P.C.Codec P.T.Transform P.F.Folder origin (state_seen self) (shelf_seen shelf.old) result.1 (state_seen result.0) (shelf_seen shelf.new) }
+        ensures store { (shelf_seen shelf.new).store ≡ (shelf_seen shelf.old).store }
+        ensures codec { shelf.new.codec ≡ shelf.old.codec }
+        ensures waits { StaysIfBlocked result.1 (shelf_seen shelf.old) (shelf_seen shelf.new) }
+        ensures equips { StepEquips P.C.Codec P.T.Transform P.F.Folder result.1 (state_seen result.0) (shelf_seen shelf.new) }
+        ensures number { W.number word.new ≡ raises_of (shelf_seen shelf.new).list }
+        ensures made { W.made word.new ≡ W.made word.old }
+    {
+        match self {
+            State::First { edit } => take(origin, alloc, shelf, edit),
+            State::Initialise { edit, init } => initialise(origin, alloc, shelf, edit, init),
+            State::Read { edit } => read(origin, alloc, shelf, edit),
+            State::Write { write } => write_on(origin, shelf, word, write),
+            State::SyncChanged { at } => sync_changed(origin, shelf, at),
+            State::SyncKept { edit } => sync_kept(origin, shelf, edit),
             State::Gone => unreachable!(),
         }
     }
 
-    /// The lock is taken.
-    fn take(
-        &mut self,
-        alloc: Global,
-        shelf: &mut Shelf<P>,
-        edit: P::T,
-    ) -> Progress<Result<u64, UpdateError>>
-        requires ready { Ready P.C.Codec P.T.Transform P.F.Folder self.old.origin (at.First edit) (shelf_seen shelf.old) }
-        requires gone { self.old.state ≡ State.Gone }
-        ensures row { RowFrom P.C.Codec P.T.Transform P.F.Folder self.old.origin (at.First edit) (shelf_seen shelf.old) result (state_seen self.new.state) (shelf_seen shelf.new) }
-        ensures store { (shelf_seen shelf.new).store ≡ (shelf_seen shelf.old).store }
-        ensures codec { shelf.new.codec ≡ shelf.old.codec }
-        ensures waits { StaysIfBlocked result (shelf_seen shelf.old) (shelf_seen shelf.new) }
-        ensures raises { raises_of (shelf_seen shelf.new).list ≡ raises_of (shelf_seen shelf.old).list }
-        ensures origin { self.new.origin ≡ self.old.origin }
-        ensures initialised { self.new.initialised ≡ self.old.initialised }
+    /// The step tells that the node is initialised.
+    fn is_finishing(&self) -> bool
+        ensures { result ≡ is_finishing (state_seen self.now) }
     {
-        match shelf.take(alloc, self.origin.call, Want::Update) {
-            Taken::Init => {
-                self.state = State::Initialise {
-                    edit,
-                    init: InitCall::Read,
-                };
-                Progress::Moved
-            }
-            Taken::Held => {
-                self.state = State::Read { edit };
-                Progress::Moved
-            }
-            Taken::Blocked => {
-                self.state = State::First { edit };
-                Progress::Blocked
-            }
-            Taken::HistoryFull { entries, weight } => {
-                shelf.free(self.origin.call);
-                Progress::Ended(Err(UpdateError::HistoryFull { entries, weight }))
-            }
-            Taken::NoMemory => {
-                shelf.free(self.origin.call);
-                Progress::Ended(Err(UpdateError::NoMemory))
-            }
+        match self {
+            State::Initialise { edit: _, init } => init.is_last(),
+            _ => false,
         }
     }
+}
 
-    /// A step of the initialisation.
-    fn initialise(
-        &mut self,
-        alloc: Global,
-        shelf: &mut Shelf<P>,
-        edit: P::T,
-        init: InitCall<P>,
-    ) -> Progress<Result<u64, UpdateError>>
-        requires node { is_among self.old.origin.call.node (shelf_seen shelf.old).store.nodes ≡ true }
-        requires ready { Ready P.C.Codec P.T.Transform P.F.Folder self.old.origin (init_seen edit init) (shelf_seen shelf.old) }
-        requires lives { is_dead self.old.origin.call.node (shelf_seen shelf.old).list ≡ false }
-        requires gone { self.old.state ≡ State.Gone }
-        ensures row { RowFrom P.C.Codec P.T.Transform P.F.Folder self.old.origin (init_seen edit init) (shelf_seen shelf.old) result (state_seen self.new.state) (shelf_seen shelf.new) }
-        ensures store { (shelf_seen shelf.new).store ≡ (shelf_seen shelf.old).store }
-        ensures codec { shelf.new.codec ≡ shelf.old.codec }
-        ensures waits { StaysIfBlocked result (shelf_seen shelf.old) (shelf_seen shelf.new) }
-        ensures raises { raises_of (shelf_seen shelf.new).list ≡ raises_of (shelf_seen shelf.old).list }
-        ensures origin { self.new.origin ≡ self.old.origin }
-        ensures initialised { self.new.initialised ≡ (self.old.initialised || is_last init) }
-    {
-        match init.step(self.origin, alloc, shelf) {
-            Initialised::Moved(init) => {
-                self.state = State::Initialise { edit, init };
-                Progress::Moved
-            }
-            Initialised::Finished => {
-                self.initialised = true;
-                self.state = State::First { edit };
-                Progress::Moved
-            }
-            Initialised::Ended(error) => Progress::Ended(Err(as_update_error(error))),
+/// The lock is taken.
+fn take<P: Parts>(
+    origin: Origin,
+    alloc: Global,
+    shelf: &mut Shelf<P>,
+    edit: P::T,
+) -> (State<P>, Progress<Result<u64, UpdateError>>)
+    requires ready { Ready P.C.Codec P.T.Transform P.F.Folder origin (at.First edit) (shelf_seen shelf.old) }
+    ensures row { RowFrom P.C.Codec P.T.Transform P.F.Folder origin (at.First edit) (shelf_seen shelf.old) result.1 (state_seen result.0) (shelf_seen shelf.new) }
+    ensures store { (shelf_seen shelf.new).store ≡ (shelf_seen shelf.old).store }
+    ensures codec { shelf.new.codec ≡ shelf.old.codec }
+    ensures waits { StaysIfBlocked result.1 (shelf_seen shelf.old) (shelf_seen shelf.new) }
+    ensures raises { raises_of (shelf_seen shelf.new).list ≡ raises_of (shelf_seen shelf.old).list }
+{
+    match shelf.take(alloc, origin.call, Want::Update) {
+        Taken::Init => {
+            let init = InitCall::Read;
+            (State::Initialise { edit, init }, Progress::Moved)
+        }
+        Taken::Held => (State::Read { edit }, Progress::Moved),
+        Taken::Blocked => (State::First { edit }, Progress::Blocked),
+        Taken::HistoryFull { entries, weight } => {
+            shelf.free(origin.call);
+            let full = UpdateError::HistoryFull { entries, weight };
+            (State::Gone, Progress::Ended(Err(full)))
+        }
+        Taken::NoMemory => {
+            shelf.free(origin.call);
+            (State::Gone, Progress::Ended(Err(UpdateError::NoMemory)))
         }
     }
+}
 
-    /// Main is read, and the edit applied to its value.
-    fn read(
-        &mut self,
-        alloc: Global,
-        shelf: &mut Shelf<P>,
-        edit: P::T,
-    ) -> Progress<Result<u64, UpdateError>>
-        requires ready { Ready P.C.Codec P.T.Transform P.F.Folder self.old.origin (at.Reading edit) (shelf_seen shelf.old) }
-        requires lives { is_dead self.old.origin.call.node (shelf_seen shelf.old).list ≡ false }
-        requires gone { self.old.state ≡ State.Gone }
-        ensures row { RowFrom P.C.Codec P.T.Transform P.F.Folder self.old.origin (at.Reading edit) (shelf_seen shelf.old) result (state_seen self.new.state) (shelf_seen shelf.new) }
-        ensures store { (shelf_seen shelf.new).store ≡ (shelf_seen shelf.old).store }
-        ensures codec { shelf.new.codec ≡ shelf.old.codec }
-        ensures waits { StaysIfBlocked result (shelf_seen shelf.old) (shelf_seen shelf.new) }
-        ensures equips { StepEquips P.C.Codec P.T.Transform P.F.Folder result (state_seen self.new.state) (shelf_seen shelf.new) }
-        ensures raises { raises_of (shelf_seen shelf.new).list ≡ raises_of (shelf_seen shelf.old).list }
-        ensures origin { self.new.origin ≡ self.old.origin }
-        ensures initialised { self.new.initialised ≡ self.old.initialised }
-    {
-        let given = match read_held(self.origin, alloc, shelf) {
-            Ok(given) => given,
-            Err(error) => return Progress::Ended(Err(as_update_error(error))),
-        };
-        match apply(alloc, shelf, &given, &edit) {
-            Ok(Some(plan)) => {
-                self.state = State::Write {
-                    write: WriteCall::Raise {
-                        plan,
-                        change: Kind::Edit(edit),
-                    },
-                };
-                Progress::Moved
-            }
-            Ok(None) => {
-                self.state = State::SyncKept { edit };
-                Progress::Moved
-            }
-            Err(error) => {
-                shelf.free(self.origin.call);
-                Progress::Ended(Err(error))
-            }
+/// A step of the initialisation.
+fn initialise<P: Parts>(
+    origin: Origin,
+    alloc: Global,
+    shelf: &mut Shelf<P>,
+    edit: P::T,
+    init: InitCall<P>,
+) -> (State<P>, Progress<Result<u64, UpdateError>>)
+    requires node { is_among origin.call.node (shelf_seen shelf.old).store.nodes ≡ true }
+    requires ready { Ready P.C.Codec P.T.Transform P.F.Folder origin (init_seen edit init) (shelf_seen shelf.old) }
+    requires lives { is_dead origin.call.node (shelf_seen shelf.old).list ≡ false }
+    ensures row { RowFrom P.C.Codec P.T.Transform P.F.Folder origin (init_seen edit init) (shelf_seen shelf.old) result.1 (state_seen result.0) (shelf_seen shelf.new) }
+    ensures store { (shelf_seen shelf.new).store ≡ (shelf_seen shelf.old).store }
+    ensures codec { shelf.new.codec ≡ shelf.old.codec }
+    ensures waits { StaysIfBlocked result.1 (shelf_seen shelf.old) (shelf_seen shelf.new) }
+    ensures raises { raises_of (shelf_seen shelf.new).list ≡ raises_of (shelf_seen shelf.old).list }
+{
+    match init.step(origin, alloc, shelf) {
+        Initialised::Moved(init) => (State::Initialise { edit, init }, Progress::Moved),
+        Initialised::Finished => (State::First { edit }, Progress::Moved),
+        Initialised::Ended(error) => (State::Gone, Progress::Ended(Err(as_update_error(error)))),
+    }
+}
+
+/// Main is read, and the edit applied to its value.
+fn read<P: Parts>(
+    origin: Origin,
+    alloc: Global,
+    shelf: &mut Shelf<P>,
+    edit: P::T,
+) -> (State<P>, Progress<Result<u64, UpdateError>>)
+    requires ready { Ready P.C.Codec P.T.Transform P.F.Folder origin (at.Reading edit) (shelf_seen shelf.old) }
+    requires lives { is_dead origin.call.node (shelf_seen shelf.old).list ≡ false }
+    ensures row { RowFrom P.C.Codec P.T.Transform P.F.Folder origin (at.Reading edit) (shelf_seen shelf.old) result.1 (state_seen result.0) (shelf_seen shelf.new) }
+    ensures store { (shelf_seen shelf.new).store ≡ (shelf_seen shelf.old).store }
+    ensures codec { shelf.new.codec ≡ shelf.old.codec }
+    ensures waits { StaysIfBlocked result.1 (shelf_seen shelf.old) (shelf_seen shelf.new) }
+    ensures equips { StepEquips P.C.Codec P.T.Transform P.F.Folder result.1 (state_seen result.0) (shelf_seen shelf.new) }
+    ensures raises { raises_of (shelf_seen shelf.new).list ≡ raises_of (shelf_seen shelf.old).list }
+{
+    let given = match read_held(origin, alloc, shelf) {
+        Ok(given) => given,
+        Err(error) => return (State::Gone, Progress::Ended(Err(as_update_error(error)))),
+    };
+    match apply(alloc, shelf, &given, &edit) {
+        Ok(Some(plan)) => {
+            let change = Kind::Edit(edit);
+            let write = WriteCall::Raise { plan, change };
+            (State::Write { write }, Progress::Moved)
+        }
+        Ok(None) => (State::SyncKept { edit }, Progress::Moved),
+        Err(error) => {
+            shelf.free(origin.call);
+            (State::Gone, Progress::Ended(Err(error)))
         }
     }
+}
 
-    /// A step of the write.
-    fn write<W: Word>(
-        &mut self,
-        shelf: &mut Shelf<P>,
-        word: &mut W,
-        write: WriteCall<P>,
-    ) -> Progress<Result<u64, UpdateError>>
-        requires word { W.ready (W.made word.old) }
-        requires number { W.number word.old ≡ raises_of (shelf_seen shelf.old).list }
-        requires ready { Ready P.C.Codec P.T.Transform P.F.Folder self.old.origin (write_seen write) (shelf_seen shelf.old) }
-        requires lives { is_dead self.old.origin.call.node (shelf_seen shelf.old).list ≡ false }
-        requires gone { self.old.state ≡ State.Gone }
-        ensures row { RowFrom P.C.Codec P.T.Transform P.F.Folder self.old.origin (write_seen write) (shelf_seen shelf.old) result (state_seen self.new.state) (shelf_seen shelf.new) }
-        ensures store { (shelf_seen shelf.new).store ≡ (shelf_seen shelf.old).store }
-        ensures codec { shelf.new.codec ≡ shelf.old.codec }
-        ensures waits { StaysIfBlocked result (shelf_seen shelf.old) (shelf_seen shelf.new) }
-        ensures equips { StepEquips P.C.Codec P.T.Transform P.F.Folder result (state_seen self.new.state) (shelf_seen shelf.new) }
-        ensures number { W.number word.new ≡ raises_of (shelf_seen shelf.new).list }
-        ensures made { W.made word.new ≡ W.made word.old }
-        ensures origin { self.new.origin ≡ self.old.origin }
-        ensures initialised { self.new.initialised ≡ self.old.initialised }
-    {
-        match write.step(self.origin, shelf, word) {
-            Written::Moved(write) => {
-                self.state = State::Write { write };
-                Progress::Moved
-            }
-            Written::Changed { at } => {
-                self.state = State::SyncChanged { at };
-                Progress::Moved
-            }
-            Written::Faulted { at } => Progress::Ended(Err(UpdateError::StorageFault { at })),
+/// A step of the write.
+fn write_on<P: Parts, W: Word>(
+    origin: Origin,
+    shelf: &mut Shelf<P>,
+    word: &mut W,
+    write: WriteCall<P>,
+) -> (State<P>, Progress<Result<u64, UpdateError>>)
+    requires word { W.ready (W.made word.old) }
+    requires number { W.number word.old ≡ raises_of (shelf_seen shelf.old).list }
+    requires ready { Ready P.C.Codec P.T.Transform P.F.Folder origin (write_seen write) (shelf_seen shelf.old) }
+    requires lives { is_dead origin.call.node (shelf_seen shelf.old).list ≡ false }
+    ensures row { RowFrom P.C.Codec P.T.Transform P.F.Folder origin (write_seen write) (shelf_seen shelf.old) result.1 (state_seen result.0) (shelf_seen shelf.new) }
+    ensures store { (shelf_seen shelf.new).store ≡ (shelf_seen shelf.old).store }
+    ensures codec { shelf.new.codec ≡ shelf.old.codec }
+    ensures waits { StaysIfBlocked result.1 (shelf_seen shelf.old) (shelf_seen shelf.new) }
+    ensures equips { StepEquips P.C.Codec P.T.Transform P.F.Folder result.1 (state_seen result.0) (shelf_seen shelf.new) }
+    ensures number { W.number word.new ≡ raises_of (shelf_seen shelf.new).list }
+    ensures made { W.made word.new ≡ W.made word.old }
+{
+    match write.step(origin, shelf, word) {
+        Written::Moved(write) => (State::Write { write }, Progress::Moved),
+        Written::Changed { at } => (State::SyncChanged { at }, Progress::Moved),
+        Written::Faulted { at } => {
+            let fault = UpdateError::StorageFault { at };
+            (State::Gone, Progress::Ended(Err(fault)))
         }
     }
+}
 
-    /// The folder is synced behind the value change at this place, and the call ends.
-    fn sync_changed(
-        &mut self,
-        shelf: &mut Shelf<P>,
-        place: u64,
-    ) -> Progress<Result<u64, UpdateError>>
-        requires ready { Ready P.C.Codec P.T.Transform P.F.Folder self.old.origin (at.SyncingFolder (at.Changed place)) (shelf_seen shelf.old) }
-        requires lives { is_dead self.old.origin.call.node (shelf_seen shelf.old).list ≡ false }
-        requires gone { self.old.state ≡ State.Gone }
-        ensures row { RowFrom P.C.Codec P.T.Transform P.F.Folder self.old.origin (at.SyncingFolder (at.Changed place)) (shelf_seen shelf.old) result (state_seen self.new.state) (shelf_seen shelf.new) }
-        ensures store { (shelf_seen shelf.new).store ≡ (shelf_seen shelf.old).store }
-        ensures codec { shelf.new.codec ≡ shelf.old.codec }
-        ensures waits { StaysIfBlocked result (shelf_seen shelf.old) (shelf_seen shelf.new) }
-        ensures raises { raises_of (shelf_seen shelf.new).list ≡ raises_of (shelf_seen shelf.old).list }
-        ensures origin { self.new.origin ≡ self.old.origin }
-        ensures initialised { self.new.initialised ≡ self.old.initialised }
-    {
-        match shelf.sync_folder(self.origin.call, None) {
-            Ok(edition) => {
-                shelf.free(self.origin.call);
-                Progress::Ended(Ok(edition))
-            }
-            Err(_fault) => Progress::Ended(Err(UpdateError::NotDurable { at: place })),
+/// The folder is synced behind the value change at this place, and the call ends.
+fn sync_changed<P: Parts>(
+    origin: Origin,
+    shelf: &mut Shelf<P>,
+    place: u64,
+) -> (State<P>, Progress<Result<u64, UpdateError>>)
+    requires ready { Ready P.C.Codec P.T.Transform P.F.Folder origin (at.SyncingFolder (at.Changed place)) (shelf_seen shelf.old) }
+    requires lives { is_dead origin.call.node (shelf_seen shelf.old).list ≡ false }
+    ensures row { RowFrom P.C.Codec P.T.Transform P.F.Folder origin (at.SyncingFolder (at.Changed place)) (shelf_seen shelf.old) result.1 (state_seen result.0) (shelf_seen shelf.new) }
+    ensures store { (shelf_seen shelf.new).store ≡ (shelf_seen shelf.old).store }
+    ensures codec { shelf.new.codec ≡ shelf.old.codec }
+    ensures waits { StaysIfBlocked result.1 (shelf_seen shelf.old) (shelf_seen shelf.new) }
+    ensures raises { raises_of (shelf_seen shelf.new).list ≡ raises_of (shelf_seen shelf.old).list }
+{
+    match shelf.sync_folder(origin.call, None) {
+        Ok(edition) => {
+            shelf.free(origin.call);
+            (State::Gone, Progress::Ended(Ok(edition)))
+        }
+        Err(_fault) => {
+            let error = UpdateError::NotDurable { at: place };
+            (State::Gone, Progress::Ended(Err(error)))
         }
     }
+}
 
-    /// The folder is synced for an edit that kept the value, which is told by a Same, and the call ends.
-    fn sync_kept(&mut self, shelf: &mut Shelf<P>, edit: P::T) -> Progress<Result<u64, UpdateError>>
-        requires ready { Ready P.C.Codec P.T.Transform P.F.Folder self.old.origin (at.SyncingFolder (at.Kept edit)) (shelf_seen shelf.old) }
-        requires lives { is_dead self.old.origin.call.node (shelf_seen shelf.old).list ≡ false }
-        requires gone { self.old.state ≡ State.Gone }
-        ensures row { RowFrom P.C.Codec P.T.Transform P.F.Folder self.old.origin (at.SyncingFolder (at.Kept edit)) (shelf_seen shelf.old) result (state_seen self.new.state) (shelf_seen shelf.new) }
-        ensures store { (shelf_seen shelf.new).store ≡ (shelf_seen shelf.old).store }
-        ensures codec { shelf.new.codec ≡ shelf.old.codec }
-        ensures waits { StaysIfBlocked result (shelf_seen shelf.old) (shelf_seen shelf.new) }
-        ensures raises { raises_of (shelf_seen shelf.new).list ≡ raises_of (shelf_seen shelf.old).list }
-        ensures origin { self.new.origin ≡ self.old.origin }
-        ensures initialised { self.new.initialised ≡ self.old.initialised }
-    {
-        match shelf.sync_folder(self.origin.call, Some(edit)) {
-            Ok(edition) => {
-                shelf.free(self.origin.call);
-                Progress::Ended(Ok(edition))
-            }
-            Err(at) => Progress::Ended(Err(UpdateError::NotDurable { at })),
+/// The folder is synced for an edit that kept the value, which is told by a Same, and the call ends.
+fn sync_kept<P: Parts>(
+    origin: Origin,
+    shelf: &mut Shelf<P>,
+    edit: P::T,
+) -> (State<P>, Progress<Result<u64, UpdateError>>)
+    requires ready { Ready P.C.Codec P.T.Transform P.F.Folder origin (at.SyncingFolder (at.Kept edit)) (shelf_seen shelf.old) }
+    requires lives { is_dead origin.call.node (shelf_seen shelf.old).list ≡ false }
+    ensures row { RowFrom P.C.Codec P.T.Transform P.F.Folder origin (at.SyncingFolder (at.Kept edit)) (shelf_seen shelf.old) result.1 (state_seen result.0) (shelf_seen shelf.new) }
+    ensures store { (shelf_seen shelf.new).store ≡ (shelf_seen shelf.old).store }
+    ensures codec { shelf.new.codec ≡ shelf.old.codec }
+    ensures waits { StaysIfBlocked result.1 (shelf_seen shelf.old) (shelf_seen shelf.new) }
+    ensures raises { raises_of (shelf_seen shelf.new).list ≡ raises_of (shelf_seen shelf.old).list }
+{
+    match shelf.sync_folder(origin.call, Some(edit)) {
+        Ok(edition) => {
+            shelf.free(origin.call);
+            (State::Gone, Progress::Ended(Ok(edition)))
+        }
+        Err(at) => {
+            let error = UpdateError::NotDurable { at };
+            (State::Gone, Progress::Ended(Err(error)))
         }
     }
 }
