@@ -7,11 +7,12 @@ use Rattle.hist_journal.specs.Folds.{edition_of}
 use Rattle.hist_journal.proofs.FoldLemmas.{edition_of-other}
 use Rattle.shelf.specs.declared.store.Store.{Store}
 use Rattle.shelf.specs.Acknowledged.{IsUpdated}
-use Rattle.shelf.specs.Calls.{At, ReadingFirst, Reading, SyncingFolder, Changed, Kept, is_gone}
-use Rattle.shelf.specs.declared.progress.Progress.TheVariants.{Ended}
-use Rattle.shelf.specs.Turn.{Row, Turn, TurnBy, begin, has_died_by, dies_now}
-use Rattle.shelf.specs.World.{Rules, World, Turned}
-use Rattle.shelf.proofs.StepLemmas.{itself}
+use Rattle.step_table.specs.Calls.{At, ReadingFirst, Reading, SyncingFolder, Changed, Kept, is_gone}
+use Rattle.step_table.specs.declared.progress.Progress.TheVariants.{Ended}
+use Rattle.step_table.specs.Turn.{Row, Turn, TurnBy, begin, has_died_by, dies_now}
+use Rattle.shelf.specs.Rules.{Rules}
+use Rattle.step_table.specs.World.{World, Turned}
+use Rattle.shelf.proofs.SameCalls.{itself}
 use Rattle.node_core.specs.Knows.{Knows}
 use Rattle.node_core.specs.Own.{HasChanged, IsEarly, IsFor}
 use Rattle.node_core.proofs.FailedCalls.{no_update}

@@ -1,5 +1,5 @@
 -- The turn in which an update applies its edit to the value that it read.
-use Rattle.std.proofs.Common.{◌≡◌, ◌∙◌, ◌≤◌, inl, inr, ℕ, List, [], length, Some, IsTrue, refl, sym, ap, Err}
+use Rattle.std.proofs.Common.{◌≡◌, ◌∙◌, ◌≤◌, inl, inr, ℕ, List, [], length, Some, IsTrue, refl, sym, ap, Err, false}
 use Rattle.store_traits.specs.declared.applied.Applied.{Applied}
 use Rattle.store_traits.specs.declared.applied.Applied.TheVariants.{Changed}
 use Rattle.store_traits.specs.declared.codec.Codec as codec_trait
@@ -7,18 +7,21 @@ use Rattle.store_traits.specs.declared.given.Given.{Given}
 use Rattle.store_traits.specs.declared.transform.Transform as transform_trait
 use Rattle.store_traits.specs.declared.update_error.UpdateError.{UpdateError}
 use Rattle.store_traits.specs.declared.update_error.UpdateError.TheVariants as error
+use Rattle.folder_disk.specs.Tally.{Tally, Tallies}
+use Rattle.folder_disk.specs.declared.call.FolderCall.TheVariants.{ReadMain}
 use Rattle.folder_disk.specs.declared.folder.Folder as folder_trait
 use Rattle.folder_disk.specs.Room.{HasRoomFor}
 use Rattle.hist_journal.specs.declared.seen.BaseSeen.{BaseSeen}
 use Rattle.hist_journal.specs.declared.seen.BaseSeen.TheVariants.{Held}
 use Rattle.hist_journal.specs.declared.seen.KindSeen.TheVariants.{Edit}
 use Rattle.hist_journal.specs.Folds.{applied_or, edited, value_after}
-use Rattle.shelf.specs.declared.progress.Progress.TheVariants.{Ended, Moved}
-use Rattle.shelf.specs.Calls.{Gone, Kept, Raising, Reading, SyncingFolder}
-use Rattle.shelf.specs.Effects.{DoesLast, Keeps}
+use Rattle.shelf.specs.Loading.{MayAsk}
 use Rattle.shelf.specs.Legal.{value_at}
 use Rattle.shelf.specs.ShelfSeen.{ShelfSeen}
 use Rattle.shelf.specs.ShelfTurns.{Adds, Frees}
+use Rattle.step_table.specs.declared.progress.Progress.TheVariants.{Ended, Moved}
+use Rattle.step_table.specs.Calls.{Gone, Kept, Raising, Reading, SyncingFolder}
+use Rattle.step_table.specs.Effects.{DoesLast, Keeps}
 use Rattle.node_core.specs.declared.origin.Origin.{Origin}
 use Rattle.node_core.specs.Applying.{AppliedRow, MakesPlan}
 use Rattle.node_core.specs.ReadHeld.{HasRead}
@@ -46,8 +49,8 @@ module _ {C F V T : Type 0} (c : codec_trait.Ghosts C V) (t : transform_trait.Gh
       }
 
   module _ (owns : old.owner ≡ Some origin.call) (contents : IsTrue f.told → f.contents new.folder ≡ f.contents mid.folder) (tally : f.tally new.folder ≡ f.tally mid.folder) where
-    later : (f.tally old.folder).count ≤ (f.tally new.folder).count
-    later = rw tally read.count
+    asks : Tallies f.told ReadMain false (f.tally old.folder) (f.tally new.folder)
+    asks = rw tally read.tally
 
     kept : IsTrue f.told → Keeps (f.contents old.folder) (f.contents new.folder)
     kept told = contents told ∙ read.contents told
@@ -62,7 +65,7 @@ module _ {C F V T : Type 0} (c : codec_trait.Ghosts C V) (t : transform_trait.Gh
           then = inl (record {
             change = record { old = given.value.value; new = makes.new; held = refl; makes = makes.other.makes; differs = makes.other.differs };
             fits = fits;
-            goes_on = rw text (does_row f origin (Reading edit) old new (Raising (unwritten (Edit edit) (c.encoded old.codec makes.new))) [] Keeps refl owns still kept later);
+            goes_on = rw text (does_row f origin (Reading edit) old new ReadMain (Raising (unwritten (Edit edit) (c.encoded old.codec makes.new))) [] Keeps refl owns still kept asks);
           });
         }
 
@@ -73,7 +76,7 @@ module _ {C F V T : Type 0} (c : codec_trait.Ghosts C V) (t : transform_trait.Gh
           read = read.reads;
           then = inr (record {
             same = record { old = given.value.value; held = refl; makes = makes };
-            goes_on = does_row f origin (Reading edit) old new (SyncingFolder (Kept edit)) [] Keeps refl owns still kept later;
+            goes_on = does_row f origin (Reading edit) old new ReadMain (SyncingFolder (Kept edit)) [] Keeps refl owns still kept asks;
           });
         }
 
@@ -82,11 +85,15 @@ module _ {C F V T : Type 0} (c : codec_trait.Ghosts C V) (t : transform_trait.Gh
       → Frees origin.call [] new after → after.folder ≡ new.folder → RowFrom c t f origin (Reading edit) old (Ended (Err err)) Gone after
   fails_row err after row owns contents tally frees folder = by_error err row
     where
-      stops : DoesLast (turned f origin (Reading edit) old origin Gone after) Keeps []
-      stops = last_row f origin (Reading edit) old after [] Keeps refl (adds_then_frees origin.call [] old new after owns still frees) (rw folder (kept owns contents tally)) (rw folder (later owns contents tally))
+      asked : Tallies f.told ReadMain false (f.tally old.folder) (f.tally after.folder)
+      asked = rw folder (asks owns contents tally)
+
+      -- the read was made; `Asks` holds of it
+      stops : (Asks : Tally → Tally → Type 0) → Asks (f.tally old.folder) (f.tally after.folder) → DoesLast (turned f origin (Reading edit) old origin Gone after) Asks Keeps []
+      stops Asks = last_row f origin (Reading edit) old after Asks [] Keeps refl (adds_then_frees origin.call [] old new after owns still frees) (rw folder (kept owns contents tally))
 
       by_error : (err : UpdateError) → AppliedRow (rules_seen c t f mid) (c.is_value mid.codec) mid.store given.value.value edit given.edition (Err err) → RowFrom c t f origin (Reading edit) old (Ended (Err err)) Gone after
-      by_error (error.Refused code edition) row = record { value = given.value.value; read = read.reads; then = (row.0, row.1 ∙ read.reached, stops) }
+      by_error (error.Refused code edition) row = record { value = given.value.value; read = read.reads; then = (row.0, row.1 ∙ read.reached, stops (Tallies f.told ReadMain false) asked) }
       by_error (error.ValueTooLong len) row =
           record {
             value = given.value.value;
@@ -96,10 +103,10 @@ module _ {C F V T : Type 0} (c : codec_trait.Ghosts C V) (t : transform_trait.Gh
                 change = record { old = given.value.value; new = row.new; held = refl; makes = row.other.makes; differs = row.other.differs };
                 long = record { is = rw read.same.codec at row.long.is; past = rw read.same.store at row.long.past };
               },
-              stops,
+              stops (Tallies f.told ReadMain false) asked,
             );
           }
-      by_error error.NoMemory row = stops
+      by_error error.NoMemory row = stops (MayAsk f.told) (inr asked)
       by_error other row = absurd row
 
   -- the plan has memory, and what it is the text of may be main

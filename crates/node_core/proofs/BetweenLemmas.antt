@@ -9,12 +9,13 @@ use Rattle.hist_journal.specs.Quiet.{pending}
 use Rattle.folder_disk.specs.Contents.{Contents}
 use Rattle.shelf.specs.declared.store.Store.{Store}
 use Rattle.shelf.specs.CallOrder.{is_later}
-use Rattle.shelf.specs.Calls.{At, Call, First, Migrating, Finishing, Raising, Creating, Appending, SyncingScratch, Renaming, SyncingFolder, Gone, Changed, Kept, Plan}
+use Rattle.step_table.specs.Calls.{At, Call, First, Migrating, Finishing, Raising, Creating, Appending, SyncingScratch, Renaming, SyncingFolder, Gone, Changed, Kept, Plan}
 use Rattle.shelf.specs.Deaths.{has_died}
 use Rattle.shelf.specs.Entries.{is_any}
 use Rattle.shelf.specs.Legal.{value_at}
 use Rattle.shelf.specs.Meanwhile.{NoDeathOf, NoneOf}
-use Rattle.shelf.specs.World.{Rules, World}
+use Rattle.shelf.specs.Rules.{Rules}
+use Rattle.step_table.specs.World.{World}
 use Rattle.shelf.proofs.Bools.{never}
 use Rattle.shelf.proofs.MeanwhileLemmas.{no_death, own, ready, value}
 use Rattle.shelf.proofs.PendingMeanwhile.{pending_stays, pending_was}

@@ -8,11 +8,11 @@ use Rattle.folder_disk.specs.Room.{Uses}
 use Rattle.hist_journal.specs.declared.seen.KindSeen.TheVariants.{Raise}
 use Rattle.hist_journal.proofs.FoldLemmas.{value_of-other}
 use Rattle.scratch_rename.specs.Filling.{next_piece}
-use Rattle.shelf.specs.Calls.{Raising, Creating, Appending, SyncingScratch, Plan}
+use Rattle.step_table.specs.Calls.{Raising, Creating, Appending, SyncingScratch, Plan}
 use Rattle.shelf.specs.Legal.{value_at}
 use Rattle.shelf.specs.ShelfSeen.{ShelfSeen}
 use Rattle.shelf.specs.ShelfTurns.{Adds}
-use Rattle.shelf.specs.WriteRows.{filling, piece_written}
+use Rattle.step_table.specs.WriteRows.{filling, piece_written}
 use Rattle.node_core.specs.declared.origin.Origin.{Origin}
 use Rattle.node_core.specs.Ready.{CanFill, Equipped, MayWrite, rules_seen}
 

@@ -12,7 +12,7 @@ use Rattle.shelf.specs.Causes.{IsFaulted, IsUncertain, is_unsynced}
 use Rattle.shelf.specs.Entries.{is_own, is_update, some_entry}
 use Rattle.shelf.specs.Places.{StandsAt, is_fault_of}
 use Rattle.shelf.proofs.Bools.{never, one_more}
-use Rattle.shelf.proofs.StepLemmas.{itself}
+use Rattle.shelf.proofs.SameCalls.{itself}
 use Rattle.node_core.specs.Own.{HasChanged, IsEarly, is_late}
 use Rattle.node_core.proofs.EarlyLemmas.{none_late, updates_late}
 

@@ -5,15 +5,16 @@ use Rattle.store_traits.specs.declared.update_error.UpdateError.{UpdateError}
 use Rattle.hist_journal.specs.declared.seen.EntrySeen.{EntrySeen}
 use Rattle.hist_journal.specs.declared.seen.KindSeen.TheVariants.{Edit}
 use Rattle.shelf.specs.declared.store.Store.{Store}
-use Rattle.shelf.specs.Calls.{At, Call, First, ReadingFirst, Migrating, Finishing, Reading, Raising, Creating, Appending, SyncingScratch, Renaming, SyncingFolder, Changed, Kept, Gone, Plan, is_gone}
-use Rattle.shelf.specs.Effects.{is_ready_now}
-use Rattle.shelf.specs.LockRow.{Waits}
+use Rattle.step_table.specs.Calls.{At, Call, First, ReadingFirst, Migrating, Finishing, Reading, Raising, Creating, Appending, SyncingScratch, Renaming, SyncingFolder, Changed, Kept, Gone, Plan, is_gone}
+use Rattle.step_table.specs.Effects.{is_ready_now}
+use Rattle.step_table.specs.LockRow.{Waits}
 use Rattle.shelf.specs.Meanwhile.{NoneOf}
-use Rattle.shelf.specs.declared.progress.Progress.{Progress}
-use Rattle.shelf.specs.declared.progress.Progress.TheVariants.{Moved, Blocked, Ended}
-use Rattle.shelf.specs.Turn.{Row, Turn, TurnBy, begin, has_died_by, dies_now}
-use Rattle.shelf.specs.WriteRows.{piece_written}
-use Rattle.shelf.specs.World.{Rules, World, Turned}
+use Rattle.step_table.specs.declared.progress.Progress.{Progress}
+use Rattle.step_table.specs.declared.progress.Progress.TheVariants.{Moved, Blocked, Ended}
+use Rattle.step_table.specs.Turn.{Row, Turn, TurnBy, begin, has_died_by, dies_now}
+use Rattle.step_table.specs.WriteRows.{piece_written}
+use Rattle.shelf.specs.Rules.{Rules}
+use Rattle.step_table.specs.World.{World, Turned}
 use Rattle.node_core.specs.Between.{Between}
 use Rattle.node_core.specs.Knows.{Knows}
 use Rattle.node_core.specs.Own.{IsFor, WritesEdit}

@@ -11,16 +11,17 @@ use Rattle.folder_disk.specs.declared.folder.Folder as folder_trait
 use Rattle.hist_journal.specs.declared.seen.EntrySeen.{EntrySeen}
 use Rattle.hist_journal.specs.Kinds.{is_call}
 use Rattle.hist_journal.specs.Nodes.{is_ready}
-use Rattle.shelf.specs.declared.progress.Progress.{Progress}
-use Rattle.shelf.specs.declared.progress.Progress.TheVariants.{Moved, Blocked, Ended}
-use Rattle.shelf.specs.Calls.{At, Call, is_first, is_gone}
+use Rattle.step_table.specs.declared.progress.Progress.{Progress}
+use Rattle.step_table.specs.declared.progress.Progress.TheVariants.{Moved, Blocked, Ended}
+use Rattle.step_table.specs.Calls.{At, Call, is_first, is_gone}
 use Rattle.shelf.specs.Entries.{is_death}
 use Rattle.shelf.specs.ShelfSeen.{ShelfSeen}
-use Rattle.shelf.specs.World.{Turned}
+use Rattle.step_table.specs.World.{Turned}
 use Rattle.shelf.proofs.Bools.{never}
 use Rattle.shelf.proofs.DeathLemmas.{has_not_died}
 use Rattle.shelf.proofs.MeanwhileLemmas.{no_death}
-use Rattle.shelf.proofs.StepLemmas.{ended_leaves, itself, turn_has_to_wait, turn_waits, first_goes_on, same_call}
+use Rattle.step_table.proofs.StepLemmas.{ended_leaves, turn_has_to_wait, turn_waits, first_goes_on}
+use Rattle.shelf.proofs.SameCalls.{itself, same_call}
 use Rattle.node_core.specs.declared.origin.Origin.{Origin}
 use Rattle.node_core.specs.Between.{Between}
 use Rattle.node_core.specs.Phases.{is_holding}

@@ -3,14 +3,15 @@ use Rattle.std.proofs.Common.{◌≡◌, ◌∙◌, ℕ, Bool, true, false, leng
 use Rattle.store_traits.specs.declared.update_error.UpdateError.{UpdateError}
 use Rattle.store_traits.specs.declared.update_error.UpdateError.TheVariants.{Died}
 use Rattle.shelf.specs.declared.store.Store.{Store}
-use Rattle.shelf.specs.Calls.{At, Call, First, ReadingFirst, Migrating, Finishing, Reading, Raising, Creating, Appending, SyncingScratch, Renaming, SyncingFolder, Gone, ended, is_gone}
-use Rattle.shelf.specs.LockRow.{Waits}
-use Rattle.shelf.specs.declared.progress.Progress.{Progress}
-use Rattle.shelf.specs.declared.progress.Progress.TheVariants.{Moved, Blocked, Ended}
-use Rattle.shelf.specs.Turn.{Row, Turn, TurnBy, begin, has_died_by, dies_now}
-use Rattle.shelf.specs.World.{Rules, Turned}
+use Rattle.step_table.specs.Calls.{At, Call, First, ReadingFirst, Migrating, Finishing, Reading, Raising, Creating, Appending, SyncingScratch, Renaming, SyncingFolder, Gone, ended, is_gone}
+use Rattle.step_table.specs.LockRow.{Waits}
+use Rattle.step_table.specs.declared.progress.Progress.{Progress}
+use Rattle.step_table.specs.declared.progress.Progress.TheVariants.{Moved, Blocked, Ended}
+use Rattle.step_table.specs.Turn.{Row, Turn, TurnBy, begin, has_died_by, dies_now}
+use Rattle.shelf.specs.Rules.{Rules}
+use Rattle.step_table.specs.World.{Turned}
 use Rattle.shelf.proofs.Bools.{never}
-use Rattle.shelf.proofs.StepLemmas.{ended_leaves}
+use Rattle.step_table.proofs.StepLemmas.{ended_leaves}
 use Rattle.node_core.specs.Knows.{Knows}
 use Rattle.node_core.specs.Reading.{ReadsTruly}
 use Rattle.node_core.proofs.KeepingOn.{knows_begun, standing}

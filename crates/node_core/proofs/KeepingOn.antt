@@ -8,12 +8,13 @@ use Rattle.hist_journal.specs.Kinds.{is_call}
 use Rattle.hist_journal.specs.Quiet.{pending}
 use Rattle.shelf.specs.declared.store.Store.{Store}
 use Rattle.shelf.specs.CallOrder.{is_later}
-use Rattle.shelf.specs.Calls.{At, Call, Plan}
-use Rattle.shelf.specs.Effects.{at_next}
+use Rattle.step_table.specs.Calls.{At, Call, Plan}
+use Rattle.step_table.specs.Effects.{at_next}
 use Rattle.shelf.specs.Entries.{is_own}
 use Rattle.shelf.specs.Legal.{value_at}
-use Rattle.shelf.specs.Turn.{begin}
-use Rattle.shelf.specs.World.{Rules, World, Turned}
+use Rattle.step_table.specs.Turn.{begin}
+use Rattle.shelf.specs.Rules.{Rules}
+use Rattle.step_table.specs.World.{World, Turned}
 use Rattle.shelf.proofs.Bools.{not_later, one_more}
 use Rattle.node_core.specs.Knows.{Holds, Knows, KnowsContents, IsDue}
 use Rattle.node_core.specs.Own.{IsEarly, OwnEntries, is_late}

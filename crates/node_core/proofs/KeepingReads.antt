@@ -7,16 +7,18 @@ use Rattle.hist_journal.specs.declared.seen.KindSeen.TheVariants.{Edit, Inited}
 use Rattle.hist_journal.specs.Folds.{applied_or, edited, value_after}
 use Rattle.hist_journal.specs.Quiet.{pending}
 use Rattle.shelf.specs.declared.store.Store.{Store}
-use Rattle.shelf.specs.ApplyRow.{Applies, Writes, WritesNothing, new_plan}
-use Rattle.shelf.specs.Calls.{Call, First, ReadingFirst, Migrating, Finishing, Reading, Raising, SyncingFolder, Kept}
+use Rattle.step_table.specs.ApplyRow.{Applies, Writes, WritesNothing, new_plan}
+use Rattle.step_table.specs.Calls.{Call, First, ReadingFirst, Migrating, Finishing, Reading, Raising, SyncingFolder, Kept}
 use Rattle.shelf.specs.Changes.{ChangesValue}
-use Rattle.shelf.specs.Effects.{is_ready_now}
-use Rattle.shelf.specs.LastRows.{Finishes}
+use Rattle.step_table.specs.Effects.{is_ready_now}
+use Rattle.step_table.specs.LastRows.{Finishes}
 use Rattle.shelf.specs.Legal.{value_at}
-use Rattle.shelf.specs.LockRow.{Takes, most_entries}
-use Rattle.shelf.specs.declared.progress.Progress.TheVariants.{Moved}
-use Rattle.shelf.specs.ReadRows.{MigrateRow, ReadRow, ToMigrations}
-use Rattle.shelf.specs.World.{Rules, World, Turned}
+use Rattle.step_table.specs.LockRow.{Takes}
+use Rattle.shelf.specs.Takes.{most_entries}
+use Rattle.step_table.specs.declared.progress.Progress.TheVariants.{Moved}
+use Rattle.step_table.specs.ReadRows.{MigrateRow, ReadRow, ToMigrations}
+use Rattle.shelf.specs.Rules.{Rules}
+use Rattle.step_table.specs.World.{World, Turned}
 use Rattle.shelf.proofs.Bools.{never}
 use Rattle.shelf.proofs.LedgerLemmas.{quiet_other}
 use Rattle.node_core.specs.Knows.{IsDue, Knows}

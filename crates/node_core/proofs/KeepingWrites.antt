@@ -4,6 +4,9 @@ use Rattle.std.proofs.lemmas.Bool.Decides.{nat_tests}
 use Rattle.std.proofs.lemmas.List.{nil_from_length, take-append-drop}
 use Rattle.store_traits.specs.declared.ids.CallId.{CallId}
 use Rattle.store_traits.specs.declared.ids.NodeId.{NodeId}
+use Rattle.folder_disk.specs.declared.call.FolderCall.{FolderCall}
+use Rattle.folder_disk.specs.declared.call.FolderCall.TheVariants.{Create, Append, SyncScratch, Rename}
+use Rattle.folder_disk.specs.Contents.{Contents, Synced, Unsynced, scratch_bytes}
 use Rattle.hist_journal.specs.declared.seen.EntrySeen.{EntrySeen}
 use Rattle.hist_journal.specs.declared.seen.KindSeen.{KindSeen}
 use Rattle.hist_journal.specs.declared.seen.KindSeen.TheVariants.{Edit, Raise}
@@ -13,17 +16,17 @@ use Rattle.hist_journal.specs.Quiet.{ends, pending}
 use Rattle.hist_journal.proofs.FoldLemmas.{value_of-other}
 use Rattle.hist_journal.proofs.NodeLemmas.{is_ready-push}
 use Rattle.hist_journal.proofs.QuietLemmas.{pending-push}
-use Rattle.folder_disk.specs.Contents.{Contents, Synced, Unsynced, scratch_bytes}
 use Rattle.scratch_rename.specs.Filling.{next_piece}
 use Rattle.shelf.specs.declared.store.Store.{Store}
-use Rattle.shelf.specs.Calls.{At, Raising, Creating, Appending, SyncingScratch, Renaming, SyncingFolder, Changed, Plan}
-use Rattle.shelf.specs.Effects.{Does, next_place}
 use Rattle.shelf.specs.Legal.{value_at}
-use Rattle.shelf.specs.WriteRows.{Appends, Creates, Raises, Renames, SyncsScratch, filling, piece_written}
-use Rattle.shelf.specs.World.{Rules, World, Turned}
+use Rattle.shelf.specs.Rules.{Rules}
 use Rattle.shelf.proofs.Bools.{never}
 use Rattle.shelf.proofs.LedgerLemmas.{quiet_ended}
-use Rattle.shelf.proofs.StepLemmas.{itself}
+use Rattle.shelf.proofs.SameCalls.{itself}
+use Rattle.step_table.specs.Calls.{At, Raising, Creating, Appending, SyncingScratch, Renaming, SyncingFolder, Changed, Plan}
+use Rattle.step_table.specs.Effects.{Does, next_place}
+use Rattle.step_table.specs.WriteRows.{Appends, Creates, Raises, Renames, SyncsScratch, filling, piece_written}
+use Rattle.step_table.specs.World.{World, Turned}
 use Rattle.node_core.specs.Knows.{IsDue, IsInScratch, Knows, KnowsContents}
 use Rattle.node_core.specs.Own.{HasChanged, IsEarly, OwnEntries}
 use Rattle.node_core.specs.Phases.{is_holding, is_initialising, is_raised, room_at}
@@ -83,7 +86,7 @@ module _ {V T M : Type 0} (r : Rules V T) (s : Store V M) where
       (λ is. due_on r s t.world.history t.world_after.history plan (ap (value_at r.meanings s) grew ∙ value_of-other r.meanings.after s.base t.world.history e refl) (k.contents (rw told at is))))
 
   -- a turn without an entry, and with a folder call
-  done : (at next : At V T) (Makes : Contents → Contents → Type 0) (t : Turned V T) → Does t Makes [] next → Knows r s t.world (standing at t.call) → is_holding at ≡ true → IsEarly t.call.id t.world.history
+  done : {asked : FolderCall} (at next : At V T) (Makes : Contents → Contents → Type 0) (t : Turned V T) → Does t asked Makes [] next → Knows r s t.world (standing at t.call) → is_holding at ≡ true → IsEarly t.call.id t.world.history
       → OwnEntries t.call.id next t.world.history → PlanAt next → is_raised next ≡ is_raised at → room_at next ≡ room_at at → is_initialising next ≡ is_initialising at
       → (IsTrue t.world.told → Makes t.world.folder t.world_after.folder → KnowsContents r s next t.world_after.folder t.world.history) → Knows r s t.world_after t.call_after
   done at next Makes t it k holding early entries plan raised room initialising contents =
@@ -93,7 +96,7 @@ module _ {V T M : Type 0} (r : Rules V T) (s : Store V M) where
       (λ is. contents (rw told at is) (it.folder (rw told at is))))
 
   -- what was appended is to be synced, or there is more to append
-  filled : (b : Bool) (at : At V T) (plan : Plan V T) (Makes : Contents → Contents → Type 0) (t : Turned V T) → (length plan.text.rest == 0) ≡ b → Does t Makes [] (if b then SyncingScratch plan else Appending plan)
+  filled : {asked : FolderCall} (b : Bool) (at : At V T) (plan : Plan V T) (Makes : Contents → Contents → Type 0) (t : Turned V T) → (length plan.text.rest == 0) ≡ b → Does t asked Makes [] (if b then SyncingScratch plan else Appending plan)
       → Knows r s t.world (standing at t.call) → is_holding at ≡ true → is_raised at ≡ true → room_at at ≡ 2 → is_initialising at ≡ false → IsEarly t.call.id t.world.history → HasEdit plan
       → (IsTrue t.world.told → Makes t.world.folder t.world_after.folder → IsInScratch r s t.world_after.folder t.world.history plan) → Knows r s t.world_after t.call_after
   filled true at plan Makes t nothing it k holding raised room ready early asked contents =
@@ -101,22 +104,22 @@ module _ {V T M : Type 0} (r : Rules V T) (s : Store V M) where
   filled false at plan Makes t some it k holding raised room ready early asked contents =
       done at (Appending plan) Makes t it k holding early early (record { asked = asked; left = grind (arith, nat_tests, some) }) (sym raised) (sym room) (sym ready) contents
 
-  pub creating_keeps : (plan : Plan V T) (t : Turned V T) → Does t Creates [] (filling plan) → Knows r s t.world (standing (Creating plan) t.call) → Knows r s t.world_after t.call_after
+  pub creating_keeps : (plan : Plan V T) (t : Turned V T) → Does t Create Creates [] (filling plan) → Knows r s t.world (standing (Creating plan) t.call) → Knows r s t.world_after t.call_after
   creating_keeps plan t it k =
       filled (length plan.text.rest == 0) (Creating plan) plan Creates t refl it k refl refl refl refl k.entries k.plan.asked
       (λ is made. record { due = k.contents is; scratch = made.scratch ∙ ap Unsynced (sym k.plan.nothing) })
 
-  pub appending_keeps : (plan : Plan V T) (t : Turned V T) → Does t (Appends (next_piece plan.text)) [] (filling (piece_written plan)) → Knows r s t.world (standing (Appending plan) t.call) → Knows r s t.world_after t.call_after
+  pub appending_keeps : (plan : Plan V T) (t : Turned V T) → Does t Append (Appends (next_piece plan.text)) [] (filling (piece_written plan)) → Knows r s t.world (standing (Appending plan) t.call) → Knows r s t.world_after t.call_after
   appending_keeps plan t it k =
       filled (length (drop 4096 plan.text.rest) == 0) (Appending plan) (piece_written plan) (Appends (next_piece plan.text)) t refl it k refl refl refl refl k.entries (record { edit = k.plan.asked.edit; is = k.plan.asked.is })
       (λ is made. let known = k.contents is in record { due = due_written t plan known.due; scratch = made.scratch ∙ ap (λ old. Unsynced (scratch_bytes old ++ next_piece plan.text)) known.scratch })
 
-  pub syncing_keeps : (plan : Plan V T) (t : Turned V T) → Does t SyncsScratch [] (Renaming plan) → Knows r s t.world (standing (SyncingScratch plan) t.call) → Knows r s t.world_after t.call_after
+  pub syncing_keeps : (plan : Plan V T) (t : Turned V T) → Does t SyncScratch SyncsScratch [] (Renaming plan) → Knows r s t.world (standing (SyncingScratch plan) t.call) → Knows r s t.world_after t.call_after
   syncing_keeps plan t it k =
       done (SyncingScratch plan) (Renaming plan) SyncsScratch t it k refl k.entries k.entries k.plan refl refl refl
       (λ is made. let known = k.contents is in record { due = known.due; scratch = made.scratch ∙ ap (λ old. Synced (scratch_bytes old)) known.scratch })
 
-  pub renaming_keeps : (plan : Plan V T) (t : Turned V T) → Does t Renames (plan.change ∷ []) (SyncingFolder (Changed (next_place t.world))) → Knows r s t.world (standing (Renaming plan) t.call) → Knows r s t.world_after t.call_after
+  pub renaming_keeps : (plan : Plan V T) (t : Turned V T) → Does t Rename Renames (plan.change ∷ []) (SyncingFolder (Changed (next_place t.world))) → Knows r s t.world (standing (Renaming plan) t.call) → Knows r s t.world_after t.call_after
   renaming_keeps plan t it k =
       let e : EntrySeen V T = record { who = t.call.id; kind = plan.change } in
       let grew : t.world_after.history ≡ t.world.history ++ e ∷ [] = ap (λ (w : World V T). w.history) it.world in

@@ -6,15 +6,16 @@ use Rattle.hist_journal.specs.declared.seen.KindSeen.{KindSeen}
 use Rattle.hist_journal.specs.declared.seen.KindSeen.TheVariants.{Raise, Inited}
 use Rattle.hist_journal.specs.Kinds.{is_death_of}
 use Rattle.shelf.specs.declared.store.Store.{Store}
-use Rattle.shelf.specs.Calls.{At, Call, First, ReadingFirst, Migrating, Finishing, Reading, Raising, Creating, Appending, SyncingScratch, Renaming, SyncingFolder, Gone, is_gone}
+use Rattle.step_table.specs.Calls.{At, Call, First, ReadingFirst, Migrating, Finishing, Reading, Raising, Creating, Appending, SyncingScratch, Renaming, SyncingFolder, Gone, is_gone}
 use Rattle.shelf.specs.Deaths.{has_died}
-use Rattle.shelf.specs.Effects.{at_next}
-use Rattle.shelf.specs.LockRow.{Waits}
+use Rattle.step_table.specs.Effects.{at_next}
+use Rattle.step_table.specs.LockRow.{Waits}
 use Rattle.shelf.specs.Meanwhile.{NoDeathOf}
-use Rattle.shelf.specs.declared.progress.Progress.{Progress}
-use Rattle.shelf.specs.declared.progress.Progress.TheVariants.{Moved, Blocked, Ended}
-use Rattle.shelf.specs.Turn.{Row, Turn, TurnBy, begin, has_died_by, dies_now}
-use Rattle.shelf.specs.World.{Rules, World, Turned}
+use Rattle.step_table.specs.declared.progress.Progress.{Progress}
+use Rattle.step_table.specs.declared.progress.Progress.TheVariants.{Moved, Blocked, Ended}
+use Rattle.step_table.specs.Turn.{Row, Turn, TurnBy, begin, has_died_by, dies_now}
+use Rattle.shelf.specs.Rules.{Rules}
+use Rattle.step_table.specs.World.{World, Turned}
 use Rattle.shelf.proofs.Bools.{never}
 use Rattle.node_core.specs.Knows.{Knows}
 use Rattle.node_core.proofs.KeepingLemmas.{answered_is_gone, waits_by}

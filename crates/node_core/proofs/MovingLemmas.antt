@@ -1,14 +1,16 @@
 -- A call that moved has not ended, and a call that has not ended has turns left.
 use Rattle.std.proofs.Common.{◌≡◌, inl, inr, ◌≤◌, ◌==◌, ℕ, Bool, true, false, length, refl, sym, arith, if◌then◌else◌, ◌⊎◌, ap}
-use Rattle.shelf.specs.declared.progress.Progress.TheVariants.{Moved}
+use Rattle.step_table.specs.declared.progress.Progress.TheVariants.{Moved}
 use Rattle.shelf.specs.declared.store.Store.{Store}
-use Rattle.shelf.specs.Calls.{At, First, ReadingFirst, Migrating, Finishing, Reading, Raising, Creating, Appending, SyncingScratch, Renaming, SyncingFolder, Gone, is_first, is_gone, Plan}
-use Rattle.shelf.specs.Effects.{is_ready_now, freed}
-use Rattle.shelf.specs.Turn.{Row, TurnBy, Turn, begin, has_died_by, dies_now}
-use Rattle.shelf.specs.World.{Rules, Turned, World}
-use Rattle.shelf.specs.WriteRows.{piece_written}
+use Rattle.step_table.specs.Calls.{At, First, ReadingFirst, Migrating, Finishing, Reading, Raising, Creating, Appending, SyncingScratch, Renaming, SyncingFolder, Gone, is_first, is_gone, Plan}
+use Rattle.step_table.specs.Effects.{is_ready_now}
+use Rattle.shelf.specs.Ledger.{freed}
+use Rattle.step_table.specs.Turn.{Row, TurnBy, Turn, begin, has_died_by, dies_now}
+use Rattle.shelf.specs.Rules.{Rules}
+use Rattle.step_table.specs.World.{Turned, World}
+use Rattle.step_table.specs.WriteRows.{piece_written}
 use Rattle.shelf.proofs.Bools.{never}
-use Rattle.shelf.proofs.StepLemmas.{first_goes_on}
+use Rattle.step_table.proofs.StepLemmas.{first_goes_on}
 use Rattle.node_core.specs.Phases.{is_holding}
 use Rattle.node_core.specs.StepsLeft.{steps_left}
 

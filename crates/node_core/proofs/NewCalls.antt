@@ -9,7 +9,7 @@ use Rattle.hist_journal.specs.declared.seen.EntrySeen.{EntrySeen}
 use Rattle.hist_journal.specs.Kinds.{is_raise}
 use Rattle.hist_journal.specs.Quiet.{pending}
 use Rattle.shelf.specs.CallOrder.{is_later}
-use Rattle.shelf.specs.Calls.{First}
+use Rattle.step_table.specs.Calls.{First}
 use Rattle.shelf.specs.Meanwhile.{NoneOf}
 use Rattle.shelf.specs.ShelfSeen.{ShelfSeen}
 use Rattle.shelf.proofs.Bools.{never}

@@ -6,14 +6,15 @@ use Rattle.store_traits.specs.declared.transform.Transform as transform_trait
 use Rattle.store_traits.specs.declared.update_error.UpdateError.{UpdateError}
 use Rattle.store_traits.specs.declared.update_error.UpdateError.TheVariants as error
 use Rattle.folder_disk.specs.declared.folder.Folder as folder_trait
-use Rattle.shelf.specs.declared.progress.Progress.{Progress}
-use Rattle.shelf.specs.declared.progress.Progress.TheVariants.{Ended}
+use Rattle.step_table.specs.declared.progress.Progress.{Progress}
+use Rattle.step_table.specs.declared.progress.Progress.TheVariants.{Ended}
 use Rattle.shelf.specs.declared.store.Store.{Store}
-use Rattle.shelf.specs.ApplyRow.{Applies}
-use Rattle.shelf.specs.Calls.{At, Gone, Reading, ReadingFirst}
-use Rattle.shelf.specs.ReadRows.{ReadRow, ToMigrations}
+use Rattle.step_table.specs.ApplyRow.{Applies}
+use Rattle.step_table.specs.Calls.{At, Gone, Reading, ReadingFirst}
+use Rattle.step_table.specs.ReadRows.{ReadRow, ToMigrations}
 use Rattle.shelf.specs.ShelfSeen.{ShelfSeen}
-use Rattle.shelf.specs.World.{Rules, Turned, World}
+use Rattle.shelf.specs.Rules.{Rules}
+use Rattle.step_table.specs.World.{Turned, World}
 use Rattle.node_core.specs.declared.origin.Origin.{Origin}
 use Rattle.node_core.specs.Ready.{rules_seen}
 use Rattle.node_core.specs.ReadHeld.{ReadFails}

@@ -8,14 +8,15 @@ use Rattle.hist_journal.specs.declared.seen.KindSeen.TheVariants.{Death, Inited}
 use Rattle.hist_journal.specs.Kinds.{is_death_of, is_node}
 use Rattle.hist_journal.specs.Nodes.{is_ready, mark_if, ready_mark}
 use Rattle.hist_journal.proofs.NodeLemmas.{is_ready-push}
-use Rattle.shelf.specs.declared.progress.Progress.TheVariants.{Moved}
+use Rattle.step_table.specs.declared.progress.Progress.TheVariants.{Moved}
 use Rattle.shelf.specs.declared.store.Store.{Store}
-use Rattle.shelf.specs.Calls.{At, First, ReadingFirst, Migrating, Finishing, Reading, Raising, Creating, Appending, SyncingScratch, Renaming, SyncingFolder, Gone, Plan, is_first, is_gone}
-use Rattle.shelf.specs.Effects.{is_ready_now}
+use Rattle.step_table.specs.Calls.{At, First, ReadingFirst, Migrating, Finishing, Reading, Raising, Creating, Appending, SyncingScratch, Renaming, SyncingFolder, Gone, Plan, is_first, is_gone}
+use Rattle.step_table.specs.Effects.{is_ready_now}
 use Rattle.shelf.specs.Meanwhile.{NoDeathOf}
-use Rattle.shelf.specs.Turn.{Row, Turn, TurnBy, begin, dies_now, has_died_by}
-use Rattle.shelf.specs.World.{Rules, Turned}
-use Rattle.shelf.specs.WriteRows.{piece_written}
+use Rattle.step_table.specs.Turn.{Row, Turn, TurnBy, begin, dies_now, has_died_by}
+use Rattle.shelf.specs.Rules.{Rules}
+use Rattle.step_table.specs.World.{Turned}
+use Rattle.step_table.specs.WriteRows.{piece_written}
 use Rattle.shelf.proofs.Bools.{never}
 use Rattle.shelf.proofs.MeanwhileLemmas.{carried, spared_parts}
 

@@ -5,12 +5,13 @@ use Rattle.store_traits.specs.declared.transform.Transform as transform_trait
 use Rattle.folder_disk.specs.declared.folder.Folder as folder_trait
 use Rattle.folder_disk.specs.Room.{Room}
 use Rattle.shelf.specs.declared.store.Store.{Store}
-use Rattle.shelf.specs.Calls.{At, Call, First, Gone, step_at}
+use Rattle.step_table.specs.Calls.{At, Call, First, Gone, step_at}
 use Rattle.shelf.specs.Deaths.{has_died}
 use Rattle.shelf.specs.Legal.{value_at}
 use Rattle.shelf.specs.Meanwhile.{NoDeathOf}
 use Rattle.shelf.specs.ShelfSeen.{ShelfSeen}
-use Rattle.shelf.specs.World.{Rules, World}
+use Rattle.shelf.specs.Rules.{Rules}
+use Rattle.step_table.specs.World.{World}
 use Rattle.shelf.specs.WritingSteps.{is_writing}
 use Rattle.shelf.proofs.Bools.{never}
 use Rattle.shelf.proofs.MeanwhileLemmas as meanwhile

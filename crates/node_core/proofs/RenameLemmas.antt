@@ -1,7 +1,9 @@
 -- The turn in which an update's text becomes main.
-use Rattle.std.proofs.Common.{◌≡◌, ◌∙◌, ◌+◌, ◌≤◌, ℕ, true, false, List, [], ◌∷◌, length, length-append, append-nil, Some, IsTrue, sym, ap, subst}
+use Rattle.std.proofs.Common.{◌≡◌, ◌∙◌, ◌+◌, ℕ, true, false, List, [], ◌∷◌, length, length-append, append-nil, Some, IsTrue, sym, ap, subst}
 use Rattle.std.specs.List.{list_any}
 use Rattle.store_traits.specs.declared.ids.CallId.{CallId}
+use Rattle.folder_disk.specs.Tally.{Tallies}
+use Rattle.folder_disk.specs.declared.call.FolderCall.TheVariants.{Rename}
 use Rattle.folder_disk.specs.declared.folder.Folder as folder_trait
 use Rattle.hist_journal.specs.declared.seen.EntrySeen.{EntrySeen}
 use Rattle.hist_journal.specs.declared.seen.KindSeen.{KindSeen}
@@ -10,18 +12,18 @@ use Rattle.hist_journal.specs.Kinds.{is_raise}
 use Rattle.hist_journal.specs.Nodes.{is_ready}
 use Rattle.hist_journal.proofs.FoldLemmas.{value_of-push}
 use Rattle.shelf.specs.declared.store.Store.{Store}
-use Rattle.shelf.specs.Calls.{Changed, Plan, Renaming, SyncingFolder}
 use Rattle.shelf.specs.Changes.{MakesValue}
-use Rattle.shelf.specs.Effects.{Does}
 use Rattle.shelf.specs.Legal.{value_at}
 use Rattle.shelf.specs.Meanings.{Meanings}
 use Rattle.shelf.specs.OpenRaise.{has_open_raise}
 use Rattle.shelf.specs.Plans.{WritesChange}
 use Rattle.shelf.specs.ShelfSeen.{ShelfSeen}
 use Rattle.shelf.specs.ShelfTurns.{Adds, FitInTurn}
-use Rattle.shelf.specs.World.{Rules}
-use Rattle.shelf.specs.WriteRows.{Renames}
+use Rattle.shelf.specs.Rules.{Rules}
 use Rattle.shelf.proofs.GoingOn.{GoesOn, edit_fits}
+use Rattle.step_table.specs.Calls.{Changed, Plan, Renaming, SyncingFolder}
+use Rattle.step_table.specs.Effects.{Does}
+use Rattle.step_table.specs.WriteRows.{Renames}
 use Rattle.node_core.specs.declared.origin.Origin.{Origin}
 use Rattle.node_core.specs.Knows.{IsDue}
 use Rattle.node_core.specs.Plans.{HasEdit}
@@ -54,8 +56,8 @@ module _ {V T : Type 0} where
 
 -- the text is main, and the change is told
 pub rename_row : {C F V T : Type 0} (f : folder_trait.Ghosts F) (origin : Origin) (plan : Plan V T) (old new : ShelfSeen C F V T) (place : ℕ) → HasEdit plan → old.owner ≡ Some origin.call → Adds origin.call (plan.change ∷ []) old new
-    → place ≡ length new.list → (IsTrue f.told → Renames (f.contents old.folder) (f.contents new.folder)) → (f.tally old.folder).count ≤ (f.tally new.folder).count
-    → Does (turned f origin (Renaming plan) old origin (SyncingFolder (Changed place)) new) Renames (plan.change ∷ []) (SyncingFolder (Changed (length old.list + 1)))
-rename_row f origin plan old new place asked owns adds counted renames later =
+    → place ≡ length new.list → (IsTrue f.told → Renames (f.contents old.folder) (f.contents new.folder)) → Tallies f.told Rename false (f.tally old.folder) (f.tally new.folder)
+    → Does (turned f origin (Renaming plan) old origin (SyncingFolder (Changed place)) new) Rename Renames (plan.change ∷ []) (SyncingFolder (Changed (length old.list + 1)))
+rename_row f origin plan old new place edits owns adds counted renames tallies =
     let is : place ≡ length old.list + 1 = counted ∙ (ap length adds.list ∙ length-append old.list (record { who = origin.call; kind = plan.change } ∷ [])) in
-    rw is (does_row f origin (Renaming plan) old new (SyncingFolder (Changed (length old.list + 1))) (plan.change ∷ []) Renames (raises_nothing plan asked) owns adds renames later)
+    rw is (does_row f origin (Renaming plan) old new Rename (SyncingFolder (Changed (length old.list + 1))) (plan.change ∷ []) Renames (raises_nothing plan edits) owns adds renames tallies)

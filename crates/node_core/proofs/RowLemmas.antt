@@ -1,10 +1,11 @@
 -- What a turn of the shelf leaves, as a row of the step table.
-use Rattle.std.proofs.Common.{◌≡◌, ◌∙◌, ◌+◌, ◌≤◌, ℕ, Bool, true, false, List, [], ◌∷◌, ◌++◌, length, Option, Some, None, IsTrue, refl, sym, ap, if◌then◌else◌}
+use Rattle.std.proofs.Common.{◌≡◌, ◌∙◌, ◌+◌, ℕ, Bool, true, false, List, [], ◌∷◌, ◌++◌, length, Option, Some, None, IsTrue, refl, sym, ap, if◌then◌else◌}
 use Rattle.std.specs.List.{list_any}
 use Rattle.std.proofs.lemmas.Bool.{or_parts}
-use Rattle.store_traits.specs.Faults.{Rose}
 use Rattle.store_traits.specs.declared.ids.CallId.{CallId}
 use Rattle.folder_disk.specs.declared.folder.Folder as folder_trait
+use Rattle.folder_disk.specs.Tally.{Tally, Tallies}
+use Rattle.folder_disk.specs.declared.call.FolderCall.{FolderCall}
 use Rattle.folder_disk.specs.Contents.{Contents}
 use Rattle.hist_journal.specs.declared.device.Device.TheVariants.{Folder}
 use Rattle.hist_journal.specs.declared.seen.EntrySeen.{EntrySeen}
@@ -13,14 +14,16 @@ use Rattle.hist_journal.specs.declared.seen.KindSeen.TheVariants.{Raise, Inited,
 use Rattle.hist_journal.specs.Folds.{raises_of}
 use Rattle.hist_journal.specs.Kinds.{is_call, is_raise}
 use Rattle.hist_journal.proofs.FoldLemmas.{raises_of-other, raises_of-raise}
-use Rattle.shelf.specs.Calls.{At, First, Gone, Plan, Creating}
-use Rattle.shelf.specs.Effects.{Does, DoesLast, Fails, Stops, freed, with_entries}
-use Rattle.shelf.specs.LastRows.{Finishes}
+use Rattle.shelf.specs.Ledger.{freed}
+use Rattle.shelf.specs.Entries.{with_entries}
 use Rattle.shelf.specs.ShelfSeen.{ShelfSeen}
 use Rattle.shelf.specs.ShelfTurns.{Adds, Faults, Frees}
-use Rattle.shelf.specs.WriteRows.{Raises}
 use Rattle.shelf.proofs.LedgerLemmas.{freed_room_own}
-use Rattle.shelf.proofs.StepLemmas.{itself}
+use Rattle.shelf.proofs.SameCalls.{itself}
+use Rattle.step_table.specs.Calls.{At, First, Gone, Plan, Creating}
+use Rattle.step_table.specs.Effects.{Does, DoesLast, Fails, Stops}
+use Rattle.step_table.specs.LastRows.{Finishes}
+use Rattle.step_table.specs.WriteRows.{Raises}
 use Rattle.node_core.specs.declared.origin.Origin.{Origin}
 use Rattle.node_core.specs.Views.{room_of, turned}
 
@@ -47,39 +50,39 @@ module _ {V T : Type 0} (call : CallId) where
 
 module _ {C F V T : Type 0} (f : folder_trait.Ghosts F) (origin : Origin) (at : At V T) (old new : ShelfSeen C F V T) where
   -- a folder call went well, and the owner goes on
-  pub does_row : (at_after : At V T) (kinds : List (KindSeen V T)) (Makes : Contents → Contents → Type 0) → list_any is_raise kinds ≡ false → old.owner ≡ Some origin.call → Adds origin.call kinds old new
-      → (IsTrue f.told → Makes (f.contents old.folder) (f.contents new.folder)) → (f.tally old.folder).count ≤ (f.tally new.folder).count → Does (turned f origin at old origin at_after new) Makes kinds at_after
-  does_row at_after kinds Makes none owns adds makes later =
+  pub does_row : (asked : FolderCall) (at_after : At V T) (kinds : List (KindSeen V T)) (Makes : Contents → Contents → Type 0) → list_any is_raise kinds ≡ false → old.owner ≡ Some origin.call → Adds origin.call kinds old new
+      → (IsTrue f.told → Makes (f.contents old.folder) (f.contents new.folder)) → Tallies f.told asked false (f.tally old.folder) (f.tally new.folder) → Does (turned f origin at old origin at_after new) asked Makes kinds at_after
+  does_row asked at_after kinds Makes none owns adds makes tallies =
       let same : raises_of new.list ≡ raises_of old.list = ap raises_of adds.list ∙ same_raises origin.call kinds old.list none in
       record {
         folder = makes;
-        faults = later;
+        tally = tallies;
         world = rw (same, adds.owner, adds.list) refl;
         call = rw (owned_room origin.call new.owner new.room (adds.owner ∙ owns), owned_room origin.call old.owner old.room owns, adds.room) refl;
       }
 
   -- one went well, and the call ends
-  pub last_row : (kinds : List (KindSeen V T)) (Makes : Contents → Contents → Type 0) → list_any is_raise kinds ≡ false → Frees origin.call kinds old new
-      → (IsTrue f.told → Makes (f.contents old.folder) (f.contents new.folder)) → (f.tally old.folder).count ≤ (f.tally new.folder).count → DoesLast (turned f origin at old origin Gone new) Makes kinds
-  last_row kinds Makes none frees makes later =
+  pub last_row : (Asks : Tally → Tally → Type 0) (kinds : List (KindSeen V T)) (Makes : Contents → Contents → Type 0) → list_any is_raise kinds ≡ false → Frees origin.call kinds old new
+      → (IsTrue f.told → Makes (f.contents old.folder) (f.contents new.folder)) → Asks (f.tally old.folder) (f.tally new.folder) → DoesLast (turned f origin at old origin Gone new) Asks Makes kinds
+  last_row Asks kinds Makes none frees makes tallies =
       let same : raises_of new.list ≡ raises_of old.list = ap raises_of frees.list ∙ same_raises origin.call kinds old.list none in
       record {
         folder = makes;
-        faults = later;
+        tally = tallies;
         world = rw (same, frees.owner, frees.list) refl;
         call = rw (frees.owner, room_freed origin.call old.owner new.room) refl;
       }
 
   -- one failed, and the call ends
-  pub fails_row : (Leaves : Contents → Contents → Type 0) (place : ℕ) → Faults origin.call (f.tally new.folder).count place old new
-      → (IsTrue f.told → Leaves (f.contents old.folder) (f.contents new.folder)) → Rose (f.tally old.folder).count (f.tally new.folder).count → (place ≡ length old.list + 1) × Fails (turned f origin at old origin Gone new) Leaves
-  fails_row Leaves place faults leaves rose =
+  pub fails_row : (asked : FolderCall) (Leaves : Contents → Contents → Type 0) (place : ℕ) → Faults origin.call (f.tally new.folder).count place old new
+      → (IsTrue f.told → Leaves (f.contents old.folder) (f.contents new.folder)) → Tallies f.told asked true (f.tally old.folder) (f.tally new.folder) → (place ≡ length old.list + 1) × Fails (turned f origin at old origin Gone new) asked Leaves
+  fails_row asked Leaves place faults leaves tallies =
       let frees = faults.leaves in
       let same : raises_of new.list ≡ raises_of old.list = ap raises_of frees.list ∙ same_raises origin.call (Fault Folder (f.tally new.folder).count ∷ []) old.list refl in (
         faults.place,
         record {
           folder = leaves;
-          count = rose;
+          tally = tallies;
           world = rw (same, frees.owner, frees.list) refl;
           call = rw (frees.owner, room_freed origin.call old.owner new.room) refl;
         },

@@ -14,7 +14,7 @@ use Rattle.hist_journal.specs.Kinds.{is_death_of, is_node}
 use Rattle.hist_journal.specs.Nodes.{death_mark, is_dead, mark_if}
 use Rattle.hist_journal.proofs.NodeLemmas.{is_dead-push}
 use Rattle.shelf.specs.declared.store.Store.{Store}
-use Rattle.shelf.specs.Calls.{Call}
+use Rattle.step_table.specs.Calls.{Call}
 use Rattle.shelf.specs.Deaths.{died_since, has_died}
 use Rattle.shelf.specs.Legal.{Legal}
 use Rattle.shelf.specs.Meanings.{Meanings}
@@ -22,7 +22,7 @@ use Rattle.shelf.specs.Meanwhile.{NoDeathOf}
 use Rattle.shelf.specs.Places.{StandsAt, is_up_to}
 use Rattle.shelf.proofs.Bools.{never, none_in_both}
 use Rattle.shelf.proofs.MeanwhileLemmas.{spared_parts}
-use Rattle.shelf.proofs.StepLemmas.{same_node}
+use Rattle.shelf.proofs.SameCalls.{same_node}
 use Rattle.node_core.proofs.DeathCause.{IsSilent, dies}
 
 -- an element of two lists stands in the first or in the second

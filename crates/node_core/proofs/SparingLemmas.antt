@@ -9,17 +9,18 @@ use Rattle.hist_journal.specs.declared.seen.EntrySeen.{EntrySeen}
 use Rattle.hist_journal.specs.declared.seen.KindSeen.{KindSeen}
 use Rattle.hist_journal.specs.declared.seen.KindSeen.TheVariants.{Death}
 use Rattle.hist_journal.specs.Kinds.{is_node}
-use Rattle.shelf.specs.declared.progress.Progress.{Progress}
-use Rattle.shelf.specs.declared.progress.Progress.TheVariants.{Blocked}
 use Rattle.shelf.specs.declared.store.Store.{Store}
 use Rattle.shelf.specs.CallOrder.{is_later}
-use Rattle.shelf.specs.Calls.{Call, is_gone}
 use Rattle.shelf.specs.Entries.{is_any, is_own}
-use Rattle.shelf.specs.Turn.{Dies, EndsDead, EndsDying, Turn, begin, has_died_by, dies_now}
-use Rattle.shelf.specs.World.{Rules, World, Turned}
+use Rattle.shelf.specs.Rules.{Rules}
 use Rattle.shelf.proofs.Bools.{never}
-use Rattle.shelf.proofs.GrowthLemmas.{IsOwn, all_added, dead_same, dying_dies, entries_of, none_passes, turn_own}
-use Rattle.shelf.proofs.StepLemmas.{turn_has_to_wait, turn_waits}
+use Rattle.step_table.specs.declared.progress.Progress.{Progress}
+use Rattle.step_table.specs.declared.progress.Progress.TheVariants.{Blocked}
+use Rattle.step_table.specs.Calls.{Call, is_gone}
+use Rattle.step_table.specs.Turn.{Dies, EndsDead, EndsDying, Turn, begin, has_died_by, dies_now}
+use Rattle.step_table.specs.World.{World, Turned}
+use Rattle.step_table.proofs.GrowthLemmas.{IsOwn, all_added, dead_same, dying_dies, entries_of, none_passes, turn_own}
+use Rattle.step_table.proofs.StepLemmas.{turn_has_to_wait, turn_waits}
 use Rattle.node_core.specs.Between.{Between, Died, Undisturbed}
 use Rattle.node_core.specs.Knows.{Knows}
 use Rattle.node_core.specs.Phases.{is_holding}
@@ -109,7 +110,18 @@ module _ {V T M : Type 0} (r : Rules V T) (s : Store V M) where
               outer = refl;
             })
 
-  module _ (t : Turned V T) (gave : Gave) (it : Turn r s t gave) (other : Call V T) (apart : (other.id.client.0 == t.call.id.client.0) ≡ false) where
+  -- where another call owns the lock, the turn of one that lives waits
+  pub owned_waits : (t : Turned V T) (gave : Gave) → Turn r s t gave → Knows r s t.world t.call → has_died_by (begin t) ≡ false → dies_now (begin t) ≡ false → (other : CallId) → t.world.owner ≡ Some other → (other ≡ t.call.id → ⊥) → gave ≡ Blocked
+  owned_waits t gave it knows lives goes_on other owned differs = by_own (is_holding t.call.at) refl (is_gone t.call.at) refl
+    where
+      by_own : (holds : Bool) → is_holding t.call.at ≡ holds → (gone : Bool) → is_gone t.call.at ≡ gone → gave ≡ Blocked
+      by_own true holds gone is = absurd (differs (let same : Some other ≡ Some t.call.id = sym owned ∙ (knows.holds holds).owns in cc))
+      by_own false free true is = absurd (let never_turns : ⊥ = rw is at it in never_turns)
+      by_own false free false is =
+          let another : IsAnother t.world.owner t.call.id = rw owned differs in
+          turn_has_to_wait r s t gave it lives goes_on (at_first t.call.at free is) another
+
+  module _ (t : Turned V T) (gave : Gave) (it : Turn r s t gave) (knows : Knows r s t.world t.call) (other : Call V T) (apart : (other.id.client.0 == t.call.id.client.0) ≡ false) where
     -- where the other owns the lock, the turn waits, or a death ends it
     spares_owner : (gone died dies : Bool) → is_gone t.call.at ≡ gone → has_died_by (begin t) ≡ died → dies_now (begin t) ≡ dies → is_holding t.call.at ≡ false → t.world.owner ≡ Some other.id → Between other t.world t.world_after
     spares_owner true died dies gone is_died is_dying free owns = absurd (let never_turns : ⊥ = rw gone at it in never_turns)
@@ -120,8 +132,7 @@ module _ {V T M : Type 0} (r : Rules V T) (s : Store V M) where
         let ends : EndsDying (begin t) gave = rw (gone, is_died, is_dying) at it in
         spares_dying other (begin t) apart owns (dying_dies (begin t) gave ends)
     spares_owner false false false gone is_died is_dying free owns =
-        let another : IsAnother t.world.owner t.call.id = rw owns (unlike other t apart) in
-        let waits : gave ≡ Blocked = turn_has_to_wait r s t gave it is_died is_dying (at_first t.call.at free gone) another in
+        let waits : gave ≡ Blocked = owned_waits t gave it knows is_died is_dying other.id owns (unlike other t apart) in
         let waiting : Turn r s t Blocked = rw waits at it in
         spares_all other t apart (turn_waits r s t waiting).4
 
@@ -132,7 +143,7 @@ module _ {V T M : Type 0} (r : Rules V T) (s : Store V M) where
     where
       by_own : (b : Bool) → is_holding t.call.at ≡ b → t.world.owner ≡ Some other.id → Between other t.world t.world_after
       by_own true holds owns = absurd (unlike other t apart (let same : Some other.id ≡ Some t.call.id = sym owns ∙ (knows.holds holds).owns in cc))
-      by_own false free owns = spares_owner t gave it other apart (is_gone t.call.at) (has_died_by (begin t)) (dies_now (begin t)) refl refl refl free owns
+      by_own false free owns = spares_owner t gave it knows other apart (is_gone t.call.at) (has_died_by (begin t)) (dies_now (begin t)) refl refl refl free owns
 
       by_other : (b : Bool) → is_holding other.at ≡ b → Between other t.world t.world_after
       by_other false free = spares_free other (begin t) apart (turn_own r s t gave it) free

@@ -2,13 +2,14 @@
 use Rattle.std.proofs.Common.{◌≡◌, inl, inr, ◌+◌, ◌<◌, ◌==◌, ◌||◌, ℕ, Bool, true, false, length, drop, refl, arith, if◌then◌else◌}
 use Rattle.std.proofs.lemmas.List.{length-drop}
 use Rattle.hist_journal.specs.Nodes.{is_ready}
-use Rattle.shelf.specs.declared.progress.Progress.TheVariants.{Moved}
+use Rattle.step_table.specs.declared.progress.Progress.TheVariants.{Moved}
 use Rattle.shelf.specs.declared.store.Store.{Store}
-use Rattle.shelf.specs.Calls.{At, First, ReadingFirst, Migrating, Finishing, Reading, Raising, Creating, Appending, SyncingScratch, Renaming, SyncingFolder, Gone, Plan, is_first, is_gone}
-use Rattle.shelf.specs.Effects.{is_ready_now}
-use Rattle.shelf.specs.Turn.{Row, TurnBy, Turn, begin, has_died_by, dies_now}
-use Rattle.shelf.specs.World.{Rules, Turned}
-use Rattle.shelf.specs.WriteRows.{filling, piece_written}
+use Rattle.step_table.specs.Calls.{At, First, ReadingFirst, Migrating, Finishing, Reading, Raising, Creating, Appending, SyncingScratch, Renaming, SyncingFolder, Gone, Plan, is_first, is_gone}
+use Rattle.step_table.specs.Effects.{is_ready_now}
+use Rattle.step_table.specs.Turn.{Row, TurnBy, Turn, begin, has_died_by, dies_now}
+use Rattle.shelf.specs.Rules.{Rules}
+use Rattle.step_table.specs.World.{Turned}
+use Rattle.step_table.specs.WriteRows.{filling, piece_written}
 use Rattle.shelf.proofs.Bools.{never}
 use Rattle.node_core.specs.Knows.{Knows}
 use Rattle.node_core.specs.Phases.{is_finishing}

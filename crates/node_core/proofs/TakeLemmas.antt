@@ -3,17 +3,15 @@ use Rattle.std.proofs.Common.{◌≡◌, ◌∙◌, ℕ, Bool, [], Some, refl, s
 use Rattle.store_traits.specs.declared.ids.CallId.{CallId}
 use Rattle.folder_disk.specs.declared.folder.Folder as folder_trait
 use Rattle.hist_journal.specs.Nodes.{is_ready}
-use Rattle.shelf.specs.Calls.{At, First, Reading, ReadingFirst}
-use Rattle.shelf.specs.Effects.{freed}
-use Rattle.shelf.specs.Ledger.{LedgerSeen}
-use Rattle.shelf.specs.LockRow as row
-use Rattle.shelf.specs.LockRow.{most_entries}
+use Rattle.step_table.specs.Calls.{At, First, Reading, ReadingFirst}
+use Rattle.shelf.specs.Ledger.{freed, LedgerSeen}
+use Rattle.step_table.specs.LockRow as row
+use Rattle.shelf.specs.Takes.{most_entries, HasNone, HasSpace, TakesLock}
 use Rattle.shelf.specs.PastBounds.{IsFull}
 use Rattle.shelf.specs.ShelfSeen.{ShelfSeen}
 use Rattle.shelf.specs.ShelfTurns.{Frees}
-use Rattle.shelf.specs.Takes.{HasNone, HasSpace, TakesLock}
-use Rattle.shelf.specs.World.{Rules, weight_at}
-use Rattle.shelf.proofs.StepLemmas.{itself}
+use Rattle.shelf.specs.Rules.{Rules, weight_at}
+use Rattle.shelf.proofs.SameCalls.{itself}
 use Rattle.node_core.specs.declared.origin.Origin.{Origin}
 use Rattle.node_core.specs.Views.{turned}
 

@@ -1,5 +1,5 @@
 -- A turn, put together of the rules of every turn and the row's own work.
-use Rattle.std.proofs.Common.{◌≡◌, ◌∙◌, ◌||◌, ℕ, Bool, true, false, List, ◌++◌, length, Some, unwrap_or, IsTrue, refl, sym, ap, subst, Result, Ok, Err}
+use Rattle.std.proofs.Common.{◌≡◌, ◌∙◌, ◌||◌, ℕ, Bool, true, false, List, ◌++◌, length, Some, unwrap_or, refl, sym, ap, subst, Result, Ok, Err}
 use Rattle.std.specs.List.{list_any}
 use Rattle.std.proofs.lemmas.Bool.{or_parts}
 use Rattle.std.proofs.lemmas.List.Folds.{list_any-append}
@@ -11,23 +11,24 @@ use Rattle.folder_disk.specs.declared.folder.Folder as folder_trait
 use Rattle.hist_journal.specs.declared.seen.EntrySeen.{EntrySeen}
 use Rattle.hist_journal.specs.Folds.{edition_of}
 use Rattle.hist_journal.specs.Nodes.{is_ready}
-use Rattle.shelf.specs.declared.progress.Progress.{Progress}
-use Rattle.shelf.specs.declared.progress.Progress.TheVariants.{Moved, Blocked, Ended}
-use Rattle.shelf.specs.Calls.{At, Call, First, Gone, is_first, is_gone}
 use Rattle.shelf.specs.Entries.{is_death}
 use Rattle.shelf.specs.Meanwhile.{NoDeathOf}
 use Rattle.shelf.specs.ShelfSeen.{ShelfSeen}
-use Rattle.shelf.specs.Turn.{Turn, begin, dies_now, has_died_by}
-use Rattle.shelf.specs.World.{Turned, World}
 use Rattle.shelf.proofs.Bools.{never}
 use Rattle.shelf.proofs.DeathLemmas.{has_not_died, none_of_node}
-use Rattle.shelf.proofs.StepLemmas.{turn_waits}
+use Rattle.step_table.specs.declared.progress.Progress.{Progress}
+use Rattle.step_table.specs.declared.progress.Progress.TheVariants.{Moved, Blocked, Ended}
+use Rattle.step_table.specs.Calls.{At, Call, First, Gone, is_first, is_gone}
+use Rattle.step_table.specs.Turn.{Turn, begin, dies_now, has_died_by}
+use Rattle.step_table.specs.World.{Turned, World}
+use Rattle.step_table.proofs.StepLemmas.{turn_waits}
+use Rattle.node_core.proofs.SparingLemmas.{owned_waits}
 use Rattle.node_core.specs.declared.origin.Origin.{Origin}
 use Rattle.node_core.specs.Own.{IsFor}
 use Rattle.node_core.specs.Phases.{is_finishing}
 use Rattle.node_core.specs.Reading.{ReadsTruly}
 use Rattle.node_core.specs.Ready.{Equipped, Ready, rules_seen}
-use Rattle.node_core.specs.Step.{MayStep, ShowsAnswer, StepsFall, TurnFrom}
+use Rattle.node_core.specs.Step.{MayStep, ShowsAnswer, SparesRoom, StaysIfBlocked, StepsFall, TurnFrom}
 use Rattle.node_core.specs.Steps.{RowFrom, StepEquips}
 use Rattle.node_core.specs.StepsLeft.{steps_left}
 use Rattle.node_core.specs.Views.{turned, world_seen}
@@ -100,11 +101,11 @@ module _ {C F V T : Type 0} (c : codec_trait.Ghosts C V) (t : transform_trait.Gh
         }
 
     -- and what it is answered is shown
-    pub shows : (gave : Progress (Result ℕ UpdateError)) → Turn (rules_seen c t f old) old.store this gave → IsTrue f.told → (edit : T) → IsFor origin.call edit at old.list → ShowsAnswer (rules_seen c t f old) old.store (edition_of old.list) origin.call edit new.list gave
-    shows (Ended (Ok edition)) it told edit for = update_is_acknowledged (rules_seen c t f old) old.store edit this edition it ready.knows for
-    shows (Ended (Err error)) it told edit for = error_has_cause (rules_seen c t f old) old.store edit this error it told ready.knows truly for (λ died. never (sym no_death ∙ died))
-    shows Moved it told edit for = tt
-    shows Blocked it told edit for = tt
+    pub shows : (gave : Progress (Result ℕ UpdateError)) → Turn (rules_seen c t f old) old.store this gave → (edit : T) → IsFor origin.call edit at old.list → ShowsAnswer f.told (rules_seen c t f old) old.store (edition_of old.list) origin.call edit new.list gave
+    shows (Ended (Ok edition)) it edit for = update_is_acknowledged (rules_seen c t f old) old.store edit this edition it ready.knows for
+    shows (Ended (Err error)) it edit for = error_has_cause (rules_seen c t f old) old.store edit this error it ready.knows truly for (λ died. never (sym no_death ∙ died))
+    shows Moved it edit for = tt
+    shows Blocked it edit for = tt
 
 -- a call that begins its turn is as ready as before
 pub ready_begun : {C F V T : Type 0} (c : codec_trait.Ghosts C V) (t : transform_trait.Ghosts T V) (f : folder_trait.Ghosts F) (origin : Origin) (at : At V T) (s : ShelfSeen C F V T) → Ready c t f origin at s → Ready c t f (begun origin (length s.list)) at s
@@ -116,11 +117,12 @@ pub record StepGives {C F V T : Type 0} (c : codec_trait.Ghosts C V) (t : transf
   pub ready : is_gone at_after ≡ false → Ready c t f origin_after at_after new
   pub readiness : (initialised || is_finishing at) ≡ true → is_first at_after ≡ true → is_ready origin_after.call.node new.list ≡ true
   pub falls : StepsFall old.store.limits.file initialised at gave (initialised || is_finishing at) at_after
-  pub shown : IsTrue f.told → (edit : T) → IsFor origin.call edit at old.list → ShowsAnswer (rules_seen c t f old) old.store (edition_of old.list) origin.call edit new.list gave
+  pub shown : (edit : T) → IsFor origin.call edit at old.list → ShowsAnswer f.told (rules_seen c t f old) old.store (edition_of old.list) origin.call edit new.list gave
+  pub spares : SparesRoom c t f origin old new
 
 module _ {C F V T : Type 0} (c : codec_trait.Ghosts C V) (t : transform_trait.Ghosts T V) (f : folder_trait.Ghosts F) (origin : Origin) (initialised : Bool) (at at_after : At V T) (old new : ShelfSeen C F V T) (gave : Progress (Result ℕ UpdateError))
     (may : MayStep c t f origin initialised at old) (alive : list_any (λ (e : EntrySeen V T). is_death e.kind) old.list ≡ false) (truly : ReadsTruly (rules_seen c t f old) old.store (world_seen f old)) (running : is_gone at ≡ false)
-    (row : RowFrom c t f (begun origin (length old.list)) at old gave at_after new) (codec : new.codec ≡ old.codec) (store : new.store ≡ old.store) (equips : StepEquips c t f gave at_after new) where
+    (row : RowFrom c t f (begun origin (length old.list)) at old gave at_after new) (codec : new.codec ≡ old.codec) (store : new.store ≡ old.store) (equips : StepEquips c t f gave at_after new) (stays : StaysIfBlocked gave old new) where
   the_turn : TurnFrom c t f origin at old gave (begun origin (length old.list)) at_after new
   the_turn = turn_of_row c t f origin at at_after old new gave alive running row
 
@@ -153,6 +155,15 @@ module _ {C F V T : Type 0} (c : codec_trait.Ghosts C V) (t : transform_trait.Gh
       let gone : at_after ≡ Gone = ap (λ (call : Call V T). call.at) (answered_is_gone (rules_seen c t f old) old.store this answer it) in
       never (sym (ap is_first gone) ∙ first)
 
+  -- where another call owns the lock, the turn waits
+  spares_room : SparesRoom c t f origin old new
+  spares_room other owned unlike =
+      let this = turned f origin at old (begun origin (length old.list)) at_after new in
+      let died : has_died_by (begin this) ≡ false = has_not_died origin.call.node (begin this).call.since old.list alive in
+      let blocked : gave ≡ Blocked = owned_waits (rules_seen c t f old) old.store this gave the_turn the_ready.knows died refl other owned unlike in
+      let same : new ≡ old = rw blocked at stays in
+      record { entries = ap (λ (s : ShelfSeen C F V T). s.room) same; folder = ap (λ (s : ShelfSeen C F V T). f.room s.folder) same }
+
   gives : StepGives c t f origin initialised at old gave (begun origin (length old.list)) at_after new
   gives =
       record {
@@ -161,6 +172,7 @@ module _ {C F V T : Type 0} (c : codec_trait.Ghosts C V) (t : transform_trait.Gh
         readiness = ready_by gave the_turn;
         falls = falls_by gave the_turn;
         shown = shows c t f origin at at_after old new gave alive the_turn codec store the_ready truly gave the_turn;
+        spares = spares_room;
       }
 
   pub step_gives : (origin_after : Origin) → origin_after ≡ begun origin (length old.list) → StepGives c t f origin initialised at old gave origin_after at_after new

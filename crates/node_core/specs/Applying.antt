@@ -6,7 +6,7 @@ use Rattle.store_traits.specs.declared.update_error.UpdateError.TheVariants as e
 use Rattle.shelf.specs.declared.store.Store.{Store}
 use Rattle.shelf.specs.PastBounds.{IsPastLimit}
 use Rattle.shelf.specs.Plans.{Writes}
-use Rattle.shelf.specs.World.{Rules}
+use Rattle.shelf.specs.Rules.{Rules}
 
 module _ {V T M : Type 0} (r : Rules V T) (IsValue : V → Type 0) (s : Store V M) (old : V) (edit : T) where
   -- the edit makes this other value

@@ -4,9 +4,9 @@ use Rattle.std.specs.List.{list_any}
 use Rattle.hist_journal.specs.declared.seen.EntrySeen.{EntrySeen}
 use Rattle.hist_journal.specs.Kinds.{is_death_of}
 use Rattle.shelf.specs.CallOrder.{is_later}
-use Rattle.shelf.specs.Calls.{Call}
+use Rattle.step_table.specs.Calls.{Call}
 use Rattle.shelf.specs.Meanwhile.{NoneOf, are_outer}
-use Rattle.shelf.specs.World.{World}
+use Rattle.step_table.specs.World.{World}
 use Rattle.node_core.specs.Phases.{is_holding}
 
 module _ {V T : Type 0} where

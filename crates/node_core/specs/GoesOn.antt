@@ -5,7 +5,7 @@ use Rattle.store_traits.specs.declared.transform.Transform as transform_trait
 use Rattle.folder_disk.specs.declared.folder.Folder as folder_trait
 use Rattle.hist_journal.specs.Nodes.{is_ready}
 use Rattle.shelf.specs.AddsNode.{is_among}
-use Rattle.shelf.specs.Calls.{At, is_first, is_gone}
+use Rattle.step_table.specs.Calls.{At, is_first, is_gone}
 use Rattle.shelf.specs.ShelfSeen.{ShelfSeen}
 use Rattle.node_core.specs.declared.origin.Origin.{Origin}
 use Rattle.node_core.specs.Ready.{Ready}

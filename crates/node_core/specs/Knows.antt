@@ -9,10 +9,11 @@ use Rattle.hist_journal.specs.Quiet.{pending}
 use Rattle.folder_disk.specs.Contents.{Contents, Unsynced, Synced}
 use Rattle.shelf.specs.declared.store.Store.{Store}
 use Rattle.shelf.specs.CallOrder.{is_later}
-use Rattle.shelf.specs.Calls.{At, Call, Migrating, Finishing, Raising, Creating, Appending, SyncingScratch, Renaming, SyncingFolder, Kept, Plan}
+use Rattle.step_table.specs.Calls.{At, Call, Migrating, Finishing, Raising, Creating, Appending, SyncingScratch, Renaming, SyncingFolder, Kept, Plan}
 use Rattle.shelf.specs.Changes.{KeepsValue, MakesValue}
 use Rattle.shelf.specs.Legal.{value_at}
-use Rattle.shelf.specs.World.{Rules, World}
+use Rattle.shelf.specs.Rules.{Rules}
+use Rattle.step_table.specs.World.{World}
 use Rattle.node_core.specs.Own.{OwnEntries}
 use Rattle.node_core.specs.Plans.{PlanAt}
 use Rattle.node_core.specs.Phases.{is_holding, is_initialising, is_raised, room_at}

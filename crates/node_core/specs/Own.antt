@@ -5,7 +5,7 @@ use Rattle.store_traits.specs.declared.ids.CallId.{CallId}
 use Rattle.hist_journal.specs.declared.seen.EntrySeen.{EntrySeen}
 use Rattle.hist_journal.specs.declared.seen.KindSeen.{KindSeen}
 use Rattle.hist_journal.specs.declared.seen.KindSeen.TheVariants.{Raise, Edit, Inited}
-use Rattle.shelf.specs.Calls.{At, First, ReadingFirst, Migrating, Finishing, Reading, Raising, Creating, Appending, SyncingScratch, Renaming, SyncingFolder, Gone, Changed, Kept, Plan}
+use Rattle.step_table.specs.Calls.{At, First, ReadingFirst, Migrating, Finishing, Reading, Raising, Creating, Appending, SyncingScratch, Renaming, SyncingFolder, Gone, Changed, Kept, Plan}
 use Rattle.shelf.specs.Entries.{is_own}
 use Rattle.shelf.specs.Meanwhile.{NoneOf}
 

@@ -1,6 +1,6 @@
 -- What each step of an update says of its call: what it owns, and how much room it has left.
 use Rattle.std.specs.Prelude.{ℕ, Bool, true, false}
-use Rattle.shelf.specs.Calls.{At, First, ReadingFirst, Migrating, Finishing, Reading, Raising, Creating, Appending, SyncingScratch, Renaming, SyncingFolder, Gone, Changed, Kept, step_at}
+use Rattle.step_table.specs.Calls.{At, First, ReadingFirst, Migrating, Finishing, Reading, Raising, Creating, Appending, SyncingScratch, Renaming, SyncingFolder, Gone, Changed, Kept, step_at}
 use Rattle.shelf.specs.WritingSteps.{is_writing}
 
 module _ {V T : Type 0} where

@@ -1,6 +1,6 @@
 -- How far an update has written its plan, by its next step.
 use Rattle.std.specs.Prelude.{◌≡◌, ◌≤◌, [], length}
-use Rattle.shelf.specs.Calls.{At, Raising, Creating, Appending, SyncingScratch, Renaming, Plan}
+use Rattle.step_table.specs.Calls.{At, Raising, Creating, Appending, SyncingScratch, Renaming, Plan}
 use Rattle.node_core.specs.Own.{WritesEdit}
 
 module _ {V T : Type 0} where

@@ -1,19 +1,21 @@
 -- What a read of main by the lock's owner gives.
-use Rattle.std.specs.Prelude.{◌≡◌, ◌≤◌, [], IsTrue, Err}
+use Rattle.std.specs.Prelude.{◌≡◌, [], IsTrue, Err, false}
 use Rattle.store_traits.specs.declared.codec.Codec as codec_trait
 use Rattle.store_traits.specs.declared.given.Given.{Given}
 use Rattle.store_traits.specs.declared.read_error.ReadError.{ReadError}
 use Rattle.store_traits.specs.declared.transform.Transform as transform_trait
+use Rattle.folder_disk.specs.Tally.{Tallies}
+use Rattle.folder_disk.specs.declared.call.FolderCall.TheVariants.{ReadMain}
 use Rattle.folder_disk.specs.declared.folder.Folder as folder_trait
 use Rattle.hist_journal.specs.declared.seen.BaseSeen.TheVariants.{Held}
 use Rattle.hist_journal.specs.Folds.{edition_of}
-use Rattle.shelf.specs.declared.progress.Progress.TheVariants.{Ended}
 use Rattle.shelf.specs.Base.{ReadsAs}
-use Rattle.shelf.specs.Calls.{At, Gone}
 use Rattle.shelf.specs.Legal.{value_at}
-use Rattle.shelf.specs.ReadRows.{ReadRow}
 use Rattle.shelf.specs.ShelfSeen.{ShelfSeen}
 use Rattle.shelf.specs.ShelfTurns.{Adds}
+use Rattle.step_table.specs.declared.progress.Progress.TheVariants.{Ended}
+use Rattle.step_table.specs.Calls.{At, Gone}
+use Rattle.step_table.specs.ReadRows.{ReadRow}
 use Rattle.node_core.specs.declared.origin.Origin.{Origin}
 use Rattle.node_core.specs.Ready.{rules_seen}
 use Rattle.node_core.specs.Steps.{as_update}
@@ -27,7 +29,7 @@ module _ {C F V T : Type 0} (c : codec_trait.Ghosts C V) (t : transform_trait.Gh
     pub reached : given.edition ≡ edition_of old.list
     pub same : Adds origin.call [] old new
     pub contents : IsTrue f.told → f.contents new.folder ≡ f.contents old.folder
-    pub count : (f.tally old.folder).count ≤ (f.tally new.folder).count
+    pub tally : Tallies f.told ReadMain false (f.tally old.folder) (f.tally new.folder)
     pub room : f.room new.folder ≡ f.room old.folder
 
   -- the call has ended for this reason, whichever step it was at

@@ -4,7 +4,8 @@ use Rattle.hist_journal.specs.declared.seen.BaseSeen.{BaseSeen}
 use Rattle.shelf.specs.declared.store.Store.{Store}
 use Rattle.shelf.specs.Base.{ReadsAs}
 use Rattle.shelf.specs.Legal.{value_at}
-use Rattle.shelf.specs.World.{Rules, World}
+use Rattle.shelf.specs.Rules.{Rules}
+use Rattle.step_table.specs.World.{World}
 
 -- main reads as the value of the history, where the folder tells what it holds
 abbrev pub ReadsTruly : {V T M : Type 0} → Rules V T → Store V M → World V T → Type 0

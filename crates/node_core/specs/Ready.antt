@@ -8,11 +8,11 @@ use Rattle.hist_journal.specs.declared.seen.BaseSeen.TheVariants.{Held}
 use Rattle.hist_journal.specs.declared.seen.EntrySeen.{EntrySeen}
 use Rattle.hist_journal.specs.Folds.{value_after}
 use Rattle.shelf.specs.declared.store.Store.{Store}
-use Rattle.shelf.specs.Calls.{At, Raising, Creating, Appending, SyncingScratch, Renaming, Plan}
+use Rattle.step_table.specs.Calls.{At, Raising, Creating, Appending, SyncingScratch, Renaming, Plan}
 use Rattle.shelf.specs.Kept.{MayBeMain}
 use Rattle.shelf.specs.Legal.{value_at}
 use Rattle.shelf.specs.ShelfSeen.{ShelfSeen}
-use Rattle.shelf.specs.World.{Rules, rules_of}
+use Rattle.shelf.specs.Rules.{Rules, rules_of}
 use Rattle.node_core.specs.declared.origin.Origin.{Origin}
 use Rattle.node_core.specs.Knows.{Knows}
 use Rattle.node_core.specs.Views.{call_seen, world_seen}

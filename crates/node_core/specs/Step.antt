@@ -1,21 +1,22 @@
 -- What a step of an update asks for, and what it is.
-use Rattle.std.specs.Prelude.{◌≡◌, ◌⊎◌, ◌<◌, ℕ, Bool, true, List, Result, Ok, Err}
+use Rattle.std.specs.Prelude.{◌≡◌, ◌⊎◌, ◌<◌, ℕ, Bool, true, List, Result, Ok, Err, Some, IsTrue}
 use Rattle.store_traits.specs.declared.codec.Codec as codec_trait
 use Rattle.store_traits.specs.declared.transform.Transform as transform_trait
 use Rattle.store_traits.specs.declared.update_error.UpdateError.{UpdateError}
-use Rattle.folder_disk.specs.declared.folder.Folder as folder_trait
+use Rattle.store_traits.specs.declared.update_error.UpdateError.TheVariants as error
 use Rattle.store_traits.specs.declared.ids.CallId.{CallId}
+use Rattle.folder_disk.specs.declared.folder.Folder as folder_trait
 use Rattle.hist_journal.specs.declared.seen.EntrySeen.{EntrySeen}
 use Rattle.hist_journal.specs.Nodes.{is_ready}
-use Rattle.shelf.specs.declared.progress.Progress.{Progress}
-use Rattle.shelf.specs.declared.progress.Progress.TheVariants.{Moved, Blocked, Ended}
 use Rattle.shelf.specs.declared.store.Store.{Store}
 use Rattle.shelf.specs.Acknowledged.{IsUpdated}
-use Rattle.shelf.specs.Calls.{At, is_first}
-use Rattle.shelf.specs.Causes.{HasCause}
+use Rattle.shelf.specs.Causes.{HasCause, IsUncertain, IsUncertainSame}
 use Rattle.shelf.specs.ShelfSeen.{ShelfSeen}
-use Rattle.shelf.specs.Turn.{Turn}
-use Rattle.shelf.specs.World.{Rules}
+use Rattle.shelf.specs.Rules.{Rules}
+use Rattle.step_table.specs.declared.progress.Progress.{Progress}
+use Rattle.step_table.specs.declared.progress.Progress.TheVariants.{Moved, Blocked, Ended}
+use Rattle.step_table.specs.Calls.{At, is_first}
+use Rattle.step_table.specs.Turn.{Turn}
 use Rattle.node_core.specs.declared.origin.Origin.{Origin}
 use Rattle.node_core.specs.Between.{Between, Died}
 use Rattle.node_core.specs.Phases.{is_holding}
@@ -28,6 +29,10 @@ module _ {C F V T : Type 0} (c : codec_trait.Ghosts C V) (t : transform_trait.Gh
   pub record KeepsRoom (last now : ShelfSeen C F V T) : Type 0 where
     pub entries : now.room ≡ last.room
     pub folder : f.room now.folder ≡ f.room last.folder
+
+  -- what is kept for another call that owns the lock stays
+  abbrev pub SparesRoom : Origin → ShelfSeen C F V T → ShelfSeen C F V T → Type 0
+  SparesRoom origin old new = (other : CallId) → old.owner ≡ Some other → (other ≡ origin.call → ⊥) → KeepsRoom old new
 
   -- The shelf as the call's last turn left it, and what others did since: the store is the same, the history grew by
   -- entries of others, and what a call owns that owns the lock is as it was, unless its node died. Before its earliest turn any
@@ -56,9 +61,19 @@ abbrev pub StaysIfBlocked : {C F V T : Type 0} → Progress (Result ℕ UpdateEr
 StaysIfBlocked Blocked old new = new ≡ old
 StaysIfBlocked other old new = Unit {0}
 
--- What the history shows of a call that has ended: that the update was acknowledged, or why not. `shown` is an edition
--- that was reached before
-abbrev pub ShowsAnswer : {V T M : Type 0} → Rules V T → Store V M → (shown : ℕ) → CallId → T → List (EntrySeen V T) → Progress (Result ℕ UpdateError) → Type 0
-ShowsAnswer r s shown call edit list (Ended (Ok edition)) = IsUpdated call edit edition list
-ShowsAnswer r s shown call edit list (Ended (Err error)) = HasCause r s shown call edit error list
-ShowsAnswer r s shown call edit list other = Unit {0}
+-- Why a call is answered by an error, as the history shows it; `shown` is an edition that was reached before. What
+-- speaks of the value or of main is shown where the folder tells what it holds
+abbrev pub ShowsCause : {V T M : Type 0} → Bool → Rules V T → Store V M → (shown : ℕ) → CallId → T → UpdateError → List (EntrySeen V T) → Type 0
+ShowsCause told r s shown call edit (error.HistoryFull entries weight) list = HasCause r s shown call edit (error.HistoryFull entries weight) list
+ShowsCause told r s shown call edit (error.StorageFault at) list = HasCause r s shown call edit (error.StorageFault at) list
+ShowsCause told r s shown call edit (error.NotDurable at) list = IsUncertain call at list ⊎ (IsTrue told → IsUncertainSame r s call edit at list)
+ShowsCause told r s shown call edit (error.LegacyFault at) list = HasCause r s shown call edit (error.LegacyFault at) list
+ShowsCause told r s shown call edit (error.Died at) list = HasCause r s shown call edit (error.Died at) list
+ShowsCause told r s shown call edit error.NoMemory list = Unit {0}
+ShowsCause told r s shown call edit other list = IsTrue told → HasCause r s shown call edit other list
+
+-- What the history shows of a call that has ended: that the update was acknowledged, whatever the folder tells, or why not
+abbrev pub ShowsAnswer : {V T M : Type 0} → Bool → Rules V T → Store V M → (shown : ℕ) → CallId → T → List (EntrySeen V T) → Progress (Result ℕ UpdateError) → Type 0
+ShowsAnswer told r s shown call edit list (Ended (Ok edition)) = IsUpdated call edit edition list
+ShowsAnswer told r s shown call edit list (Ended (Err error)) = ShowsCause told r s shown call edit error list
+ShowsAnswer told r s shown call edit list other = Unit {0}

@@ -7,11 +7,11 @@ use Rattle.store_traits.specs.declared.transform.Transform as transform_trait
 use Rattle.store_traits.specs.declared.update_error.UpdateError.{UpdateError}
 use Rattle.store_traits.specs.declared.update_error.UpdateError.TheVariants as error
 use Rattle.folder_disk.specs.declared.folder.Folder as folder_trait
-use Rattle.shelf.specs.declared.progress.Progress.{Progress}
-use Rattle.shelf.specs.declared.progress.Progress.TheVariants.{Moved, Ended}
-use Rattle.shelf.specs.Calls.{At, First, SyncingFolder, Changed, Gone}
+use Rattle.step_table.specs.declared.progress.Progress.{Progress}
+use Rattle.step_table.specs.declared.progress.Progress.TheVariants.{Moved, Ended}
+use Rattle.step_table.specs.Calls.{At, First, SyncingFolder, Changed, Gone}
 use Rattle.shelf.specs.ShelfSeen.{ShelfSeen}
-use Rattle.shelf.specs.Turn.{Row}
+use Rattle.step_table.specs.Turn.{Row}
 use Rattle.node_core.specs.declared.init_call.InitCall.{InitCall}
 use Rattle.node_core.specs.declared.init_call.InitCall.TheVariants as stage
 use Rattle.node_core.specs.declared.init_call.Initialised.{Initialised}

@@ -1,6 +1,6 @@
 -- How many turns a call has left at most, where none of them is blocked: one for each byte of what it writes, and some beside.
 use Rattle.std.specs.Prelude.{ℕ, ◌+◌, Bool, length, if◌then◌else◌}
-use Rattle.shelf.specs.Calls.{At, First, ReadingFirst, Migrating, Finishing, Reading, Raising, Creating, Appending, SyncingScratch, Renaming, SyncingFolder, Gone}
+use Rattle.step_table.specs.Calls.{At, First, ReadingFirst, Migrating, Finishing, Reading, Raising, Creating, Appending, SyncingScratch, Renaming, SyncingFolder, Gone}
 
 -- `limit` is how many bytes main may have; `initialised` says that the call has initialised its node
 module _ {V T : Type 0} (limit : ℕ) (initialised : Bool) where

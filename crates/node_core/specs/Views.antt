@@ -7,10 +7,10 @@ use Rattle.hist_journal.specs.Folds.{raises_of}
 use Rattle.hist_journal.specs.Kinds.{is_call}
 use Rattle.hist_journal.specs.View.{kind_seen}
 use Rattle.scratch_rename.specs.Filling.{Filling}
-use Rattle.shelf.specs.Calls.{At, Call, Plan}
-use Rattle.shelf.specs.Calls as at
 use Rattle.shelf.specs.ShelfSeen.{ShelfSeen}
-use Rattle.shelf.specs.World.{World, Turned}
+use Rattle.step_table.specs.Calls.{At, Call, Plan}
+use Rattle.step_table.specs.Calls as at
+use Rattle.step_table.specs.World.{World, Turned}
 use Rattle.node_core.specs.declared.init_call.InitCall.{InitCall}
 use Rattle.node_core.specs.declared.init_call.InitCall.TheVariants as init
 use Rattle.node_core.specs.declared.origin.Origin.{Origin}
@@ -69,7 +69,7 @@ module _ {C F V T : Type 0} (f : folder_trait.Ghosts F) where
         history = s.list;
         deaths = [];
         version = raises_of s.list;
-        faults = (f.tally s.folder).count;
+        tally = f.tally s.folder;
       }
 
   -- a call of this origin at this step

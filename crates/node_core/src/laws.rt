@@ -3,15 +3,16 @@ ghost use Rattle.std.specs.List.{list_any};
 ghost use Rattle.std.specs.Prelude.{◌≡◌, ◌==◌, ℕ, Bool, false, Some, None, Result};
 ghost use Rattle.store_traits.specs.declared.ids.CallId.{CallId};
 ghost use Rattle.store_traits.specs.declared.update_error.UpdateError.{UpdateError};
-ghost use Rattle.shelf.specs.declared.progress.Progress.{Progress};
+ghost use Rattle.step_table.specs.declared.progress.Progress.{Progress};
 ghost use Rattle.shelf.specs.declared.store.Store.{Store};
 ghost use Rattle.shelf.specs.CallOrder.{is_later};
-ghost use Rattle.shelf.specs.Calls.{At, Call, First};
+ghost use Rattle.step_table.specs.Calls.{At, Call, First};
 ghost use Rattle.shelf.specs.Deaths.{has_died};
 ghost use Rattle.shelf.specs.Meanwhile.{NoneOf};
 ghost use Rattle.shelf.specs.ShelfSeen.{ShelfSeen};
-ghost use Rattle.shelf.specs.Turn.{Turn};
-ghost use Rattle.shelf.specs.World.{Turned, rules_of};
+ghost use Rattle.step_table.specs.Turn.{Turn};
+ghost use Rattle.step_table.specs.World.{Turned};
+ghost use Rattle.shelf.specs.Rules.{rules_of};
 ghost use Rattle.node_core.specs.declared.origin.Origin.{Origin};
 ghost use Rattle.node_core.specs.Between.{Between};
 ghost use Rattle.node_core.specs.Knows.{Knows};
@@ -45,7 +46,7 @@ pub fn turns_spare_other_calls<C: Codec, T: Transform<Value = C::Value>, M>()
 {}
 
 /// A turn gives the lock to nobody but its own call. A call that has ended owns nothing (`ended_calls_own_nothing` of
-/// `shelf`), so whoever owns the lock goes on: of all calls in progress one at least is not blocked.
+/// `step_table`), so whoever owns the lock goes on: of all calls in progress one at least is not blocked.
 pub fn turns_give_no_lock_to_others<C: Codec, T: Transform<Value = C::Value>, M>()
     ensures { (c : C) (s : Store C.Value M) (t : Turned C.Value T) (gave : Progress (Result ℕ UpdateError)) (other : CallId)
         → Turn (rules_of T.after T.weight_of (C.encoded c) (C.reads c) (C.default_of c)) s t gave

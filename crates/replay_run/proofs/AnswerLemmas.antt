@@ -14,9 +14,10 @@ use Rattle.hist_journal.proofs.FoldLemmas.{edition_of-append}
 use Rattle.shelf.specs.declared.store.Store.{Store}
 use Rattle.shelf.specs.Causes.{HasCause}
 use Rattle.shelf.specs.Places.{is_up_to}
-use Rattle.shelf.specs.Calls.{Call}
+use Rattle.step_table.specs.Calls.{Call}
 use Rattle.shelf.specs.Entries.{is_update}
-use Rattle.shelf.specs.World.{Rules, World}
+use Rattle.shelf.specs.Rules.{Rules}
+use Rattle.step_table.specs.World.{World}
 use Rattle.shelf.proofs.CauseLemmas.{HasCause-more, IsUpdated-more, none_up_to}
 use Rattle.shelf.proofs.MeanwhileLemmas as meanwhile
 use Rattle.script_lang.specs.Each.{Each}

@@ -13,9 +13,10 @@ use Rattle.hist_journal.specs.Kinds.{is_call, is_raise}
 use Rattle.hist_journal.specs.Quiet.{pending}
 use Rattle.shelf.specs.declared.store.Store.{Store}
 use Rattle.shelf.specs.CallOrder.{is_later}
-use Rattle.shelf.specs.Calls.{Call}
+use Rattle.step_table.specs.Calls.{Call}
 use Rattle.shelf.specs.Entries.{is_own}
-use Rattle.shelf.specs.World.{Rules, World}
+use Rattle.shelf.specs.Rules.{Rules}
+use Rattle.step_table.specs.World.{World}
 use Rattle.shelf.proofs.Bools.{never}
 use Rattle.shelf.proofs.PendingMeanwhile.{pending_own}
 use Rattle.node_core.specs.Knows.{Knows}

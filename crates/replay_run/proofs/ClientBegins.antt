@@ -11,10 +11,11 @@ use Rattle.hist_journal.specs.Kinds.{is_call}
 use Rattle.prefs_proto.specs.declared.prefs_codec.PrefsCodec.{PrefsCodec}
 use Rattle.shelf.specs.declared.shelf.Shelf.{Shelf}
 use Rattle.shelf.specs.declared.store.Store.{Store}
-use Rattle.shelf.specs.Calls.{Call}
+use Rattle.step_table.specs.Calls.{Call}
 use Rattle.shelf.specs.ShelfSeen.{shelf_seen}
-use Rattle.shelf.specs.World.{Rules, World}
-use Rattle.shelf.proofs.StepLemmas.{same_call}
+use Rattle.shelf.specs.Rules.{Rules}
+use Rattle.step_table.specs.World.{World}
+use Rattle.shelf.proofs.SameCalls.{same_call}
 use Rattle.node_core.specs.Views.{room_of}
 use Rattle.replay_run.specs.declared.client.Client as own
 use Rattle.replay_run.specs.declared.prefs_parts.PrefsParts.{PrefsParts}

@@ -1,5 +1,5 @@
 -- What a client comes to by a turn of its call.
-use Rattle.std.proofs.Common.{◌≡◌, ◌⊎◌, ◌∙◌, inl, inr, ◌≤◌, ◌||◌, ℕ, IfSome, OnOk, arith, true, false, [], ◌∷◌, ◌++◌, map, Option, Some, None, slice_get, refl, sym, ap, Result, Ok, Err}
+use Rattle.std.proofs.Common.{◌≡◌, ◌⊎◌, ◌∙◌, inl, inr, ◌≤◌, ◌||◌, ℕ, IfSome, OnOk, arith, false, [], ◌∷◌, ◌++◌, map, Option, Some, None, slice_get, refl, sym, ap, Result, Ok, Err}
 use Rattle.std.specs.List.{list_any}
 use Rattle.std.proofs.lemmas.List.{map-append}
 use Rattle.store_traits.specs.declared.codec.Codec as codec_trait
@@ -10,27 +10,28 @@ use Rattle.store_traits.specs.declared.update_error.UpdateError.TheVariants as e
 use Rattle.folder_disk.specs.declared.folder.Folder as folder_trait
 use Rattle.folder_disk.specs.declared.mem_folder.MemFolder.{MemFolder}
 use Rattle.prefs_proto.specs.declared.prefs_codec.PrefsCodec.{PrefsCodec}
-use Rattle.shelf.specs.declared.progress.Progress.{Progress}
-use Rattle.shelf.specs.declared.progress.Progress.TheVariants.{Moved, Blocked, Ended}
 use Rattle.shelf.specs.declared.shelf.Shelf.{Shelf}
 use Rattle.shelf.specs.declared.store.Store.{Store}
-use Rattle.shelf.specs.Calls.{At, Call, First, Gone, is_gone}
 use Rattle.shelf.specs.Entries.{is_death}
 use Rattle.shelf.specs.ShelfSeen.{shelf_seen}
-use Rattle.shelf.specs.Turn.{Row, Turn, begin}
-use Rattle.shelf.specs.World.{Rules, Turned}
+use Rattle.shelf.specs.Rules.{Rules}
+use Rattle.step_table.specs.declared.progress.Progress.{Progress}
+use Rattle.step_table.specs.declared.progress.Progress.TheVariants.{Moved, Blocked, Ended}
+use Rattle.step_table.specs.Calls.{Call, is_gone}
+use Rattle.step_table.specs.Turn.{Turn}
+use Rattle.step_table.specs.World.{Turned}
 use Rattle.node_core.specs.Knows.{Knows}
-use Rattle.node_core.specs.Phases.{is_finishing, is_holding}
+use Rattle.node_core.specs.Phases.{is_finishing}
 use Rattle.node_core.specs.Step.{TurnFrom}
 use Rattle.node_core.specs.Views.{state_seen}
-use Rattle.shelf.proofs.Bools.{never}
+use Rattle.node_core.proofs.SparingLemmas.{owned_waits}
 use Rattle.replay_run.specs.declared.client.Client as own
 use Rattle.replay_run.specs.declared.prefs_parts.PrefsParts.{PrefsParts}
 use Rattle.replay_run.specs.ClientSteps.{HasAnswer, TakesTurn}
 use Rattle.replay_run.specs.Scene.{Client, call_of}
 use Rattle.replay_run.specs.StageView.{Change, Running, Value, answered_seen, call_in, client_in, is_initialised, rules_in, running_seen, store_in, world_in}
 use Rattle.replay_run.specs.Step.{at_work, begin_next, behind_turn}
-use Rattle.replay_run.proofs.OwnTurns.{moves_on, turn_row, waits_same}
+use Rattle.replay_run.proofs.OwnTurns.{living, moves_on, unplanned, waits_same}
 
 module _ {V T : Type 0} where
   begins_none : (client : Client V T) (running : Option (Call V T)) (edit : Option T) (call : Call V T) → running ≡ Some call → begin_next client running edit ≡ client
@@ -54,20 +55,9 @@ module _ {V T M : Type 0} (r : Rules V T) (s : Store V M) (t : Turned V T) (aliv
         | inr blocked ↦ absurd (let no : ◌≡◌ {A = Progress (Result ℕ UpdateError)} (Ended answer) Blocked = blocked in cc)
       ]
 
-  waits_by_row : (at : At V T) (other : CallId) (gave : Progress (Result ℕ UpdateError)) → t.world.owner ≡ Some other → (other ≡ t.call.id → ⊥) → (is_holding at ≡ true → t.world.owner ≡ Some t.call.id) → is_gone at ≡ false → Row r s at (begin t) gave → gave ≡ Blocked
-  waits_by_row (First edit) other Blocked owned apart holds goes_on row = refl
-  waits_by_row (First edit) other Moved owned apart holds goes_on row = absurd (row.free (rw owned apart))
-  waits_by_row (First edit) other (Ended (Err (error.HistoryFull entries weight))) owned apart holds goes_on row = absurd (row.0 (rw owned apart))
-  waits_by_row (First edit) other (Ended (Err error.NoMemory)) owned apart holds goes_on row = absurd (row.0 (rw owned apart))
-  waits_by_row (First edit) other gave owned apart holds goes_on row = absurd row
-  waits_by_row Gone other gave owned apart holds goes_on row = never (sym goes_on)
-  waits_by_row at other gave owned apart holds goes_on row = absurd (apart (let both : ◌≡◌ {A = Option CallId} (Some other) (Some t.call.id) = sym owned ∙ holds refl in cc))
-
   -- where another owns the lock, the call waits
   pub lock_waits : (other : CallId) (gave : Progress (Result ℕ UpdateError)) → Turn r s t gave → Knows r s t.world t.call → t.world.owner ≡ Some other → (other ≡ t.call.id → ⊥) → gave ≡ Blocked
-  lock_waits other gave it knows owned apart =
-      let row = turn_row r s t alive none gave it in
-      waits_by_row t.call.at other gave owned apart (λ holding. (knows.holds holding).owns) row.0 row.1
+  lock_waits other gave it knows owned apart = owned_waits r s t gave it knows (living r s t alive) (unplanned r s t none) other owned apart
 
 module _ {c : codec_trait.Ghosts PrefsCodec Value} {t : transform_trait.Ghosts Change Value} {f : folder_trait.Ghosts MemFolder} (old new : Shelf (PrefsParts MemFolder) PrefsCodec Change MemFolder Value c t f) (client : own.Client) (call call_after : Running)
     (runs : client.running ≡ Some call) where
@@ -78,7 +68,7 @@ module _ {c : codec_trait.Ghosts PrefsCodec Value} {t : transform_trait.Ghosts C
   running_is = ap (λ (running : Option Running). running_seen f (shelf_seen old) running) runs
 
   pub takes : (client_after : own.Client) (gave : Progress (Result ℕ UpdateError)) → TurnFrom c t f call.origin (state_seen call.state) (shelf_seen old) gave call_after.origin (state_seen call_after.state) (shelf_seen new)
-      → (gave ≡ Ended (Err error.NoMemory) → ⊥) → (world_in new).faults ≡ (world_in old).faults
+      → (gave ≡ Ended (Err error.NoMemory) → ⊥) → (world_in new).tally.count ≡ (world_in old).tally.count
       → client_in new client_after ≡ behind_turn was (call_in old call) gave (call_in new call_after)
       → TakesTurn (rules_in old) (store_in old) was (world_in old) (client_in new client_after) (world_in new)
   takes client_after gave turn memory unfailed now =

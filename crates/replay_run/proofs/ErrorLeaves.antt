@@ -3,19 +3,21 @@ use Rattle.std.proofs.Common.{◌≡◌, ℕ, false, [], sym, ap, Result, Err}
 use Rattle.std.specs.List.{list_any}
 use Rattle.store_traits.specs.declared.update_error.UpdateError.{UpdateError}
 use Rattle.store_traits.specs.declared.update_error.UpdateError.TheVariants as error
+use Rattle.folder_disk.specs.declared.call.FolderCall.{FolderCall}
 use Rattle.folder_disk.specs.Contents.{Contents}
-use Rattle.shelf.specs.declared.progress.Progress.{Progress}
-use Rattle.shelf.specs.declared.progress.Progress.TheVariants.{Ended}
 use Rattle.shelf.specs.declared.store.Store.{Store}
-use Rattle.shelf.specs.ApplyRow.{Applies}
-use Rattle.shelf.specs.Calls.{At, First, ReadingFirst, Migrating, Reading, Creating, Appending, SyncingScratch, Renaming, SyncingFolder}
-use Rattle.shelf.specs.Effects.{Fails}
 use Rattle.shelf.specs.Entries.{is_own, is_update}
-use Rattle.shelf.specs.LockRow.{LockRow}
-use Rattle.shelf.specs.ReadRows.{ReadRow, ToMigrations}
-use Rattle.shelf.specs.Turn.{Row, Turn, begin}
-use Rattle.shelf.specs.World.{Rules, World, Turned}
+use Rattle.shelf.specs.Rules.{Rules}
 use Rattle.shelf.proofs.Bools.{never}
+use Rattle.step_table.specs.declared.progress.Progress.{Progress}
+use Rattle.step_table.specs.declared.progress.Progress.TheVariants.{Ended}
+use Rattle.step_table.specs.ApplyRow.{Applies}
+use Rattle.step_table.specs.Calls.{At, First, ReadingFirst, Migrating, Reading, Creating, Appending, SyncingScratch, Renaming, SyncingFolder}
+use Rattle.step_table.specs.Effects.{Fails}
+use Rattle.step_table.specs.LockRow.{LockRow}
+use Rattle.step_table.specs.ReadRows.{ReadRow, ToMigrations}
+use Rattle.step_table.specs.Turn.{Row, Turn, begin}
+use Rattle.step_table.specs.World.{World, Turned}
 use Rattle.node_core.specs.Own.{IsEarly, OwnEntries}
 use Rattle.node_core.proofs.FailedCalls.{faulted, no_update}
 use Rattle.replay_run.specs.ClientKeeps.{may_stand}
@@ -28,8 +30,8 @@ module _ {V T M : Type 0} (r : Rules V T) (s : Store V M) where
   stays_none : (t : Turned V T) → IsEarly t.call.id t.world.history → t.world_after.history ≡ t.world.history → LeavesNone t
   stays_none t early same = rw same (no_update t.call.id t.world.history early)
 
-  fails_none : {Part : Contents → Contents → Type 0} (t : Turned V T) → Fails t Part → IsEarly t.call.id t.world.history → LeavesNone t
-  fails_none t it early = (faulted t.call.id t.world.history t.world_after.history t.world_after.faults (ap (λ (w : World V T). w.history) it.world) early).no_update
+  fails_none : {asked : FolderCall} {Part : Contents → Contents → Type 0} (t : Turned V T) → Fails t asked Part → IsEarly t.call.id t.world.history → LeavesNone t
+  fails_none t it early = (faulted t.call.id t.world.history t.world_after.history t.world_after.tally.count (ap (λ (w : World V T). w.history) it.world) early).no_update
 
   read_none : (Then : V → Progress (Result ℕ UpdateError) → Type 0) (t : Turned V T) (e : UpdateError) → ReadRow r s t Then (Ended (Err e)) → IsEarly t.call.id t.world.history
       → ((value : V) (e : UpdateError) → Then value (Ended (Err e)) → LeavesNone t) → LeavesNone t

@@ -25,7 +25,7 @@ use Rattle.shelf.specs.Entries.{is_any, is_own, is_update}
 use Rattle.shelf.specs.Images.{is_synced}
 use Rattle.shelf.specs.Places.{is_fault_of}
 use Rattle.shelf.proofs.Bools.{never}
-use Rattle.shelf.proofs.StepLemmas.{itself}
+use Rattle.shelf.proofs.SameCalls.{itself}
 use Rattle.script_lang.specs.declared.script.Script.{Script}
 use Rattle.script_lang.specs.Asked.{asked_by}
 use Rattle.script_lang.specs.Chronicle.{Basis, Chapter}

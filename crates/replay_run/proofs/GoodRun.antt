@@ -10,7 +10,8 @@ use Rattle.prefs_model.specs.declared.pref_pair.PrefPair.{PrefPair}
 use Rattle.hist_journal.specs.declared.seen.EntrySeen.{EntrySeen}
 use Rattle.hist_journal.specs.Folds.{main_of}
 use Rattle.shelf.specs.declared.store.Store.{Store}
-use Rattle.shelf.specs.World.{Rules, World}
+use Rattle.shelf.specs.Rules.{Rules}
+use Rattle.step_table.specs.World.{World}
 use Rattle.shelf.proofs.Bools.{never}
 use Rattle.shelf.proofs.StoreLemmas.{cause_alike, legal_alike}
 use Rattle.script_lang.specs.declared.script.Script.{Script}

@@ -2,7 +2,8 @@
 use Rattle.std.proofs.Common.{◌≡◌, ◌∙◌, inl, inr, ◌+◌, ℕ, suc, zero, List, [], ◌∷◌, length, slice_set, refl, sym, ap, subst}
 use Rattle.store_traits.specs.declared.ids.NodeId.{NodeId}
 use Rattle.shelf.specs.declared.store.Store.{Store}
-use Rattle.shelf.specs.World.{Rules, World}
+use Rattle.shelf.specs.Rules.{Rules}
+use Rattle.step_table.specs.World.{World}
 use Rattle.replay_run.specs.Order.{Adds, Does, DoesAll, Go, GoesTimes, Order, Task, Update, with_edit}
 use Rattle.replay_run.specs.Run.{GoesEach, IsOver, IsRun, Rounds, new_clients, start_of, world_of}
 use Rattle.replay_run.specs.Scene.{Client, Scene}

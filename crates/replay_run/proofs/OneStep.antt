@@ -1,9 +1,10 @@
 -- A step of a client leads to one scene.
 use Rattle.std.proofs.Common.{◌≡◌, ◌∙◌, inl, inr, ℕ, true, false, List, Option, Some, is_some, slice_set, sym, ap, subst}
 use Rattle.shelf.specs.declared.store.Store.{Store}
-use Rattle.shelf.specs.Calls.{Call}
-use Rattle.shelf.specs.World.{Rules, World}
+use Rattle.shelf.specs.Rules.{Rules}
 use Rattle.shelf.proofs.Bools.{never}
+use Rattle.step_table.specs.Calls.{Call}
+use Rattle.step_table.specs.World.{World}
 use Rattle.replay_run.specs.Scene.{Client, Scene}
 use Rattle.replay_run.specs.Step.{Acts, Goes, Rests, Steps, at_work, behind_turn, has_work}
 use Rattle.replay_run.proofs.LineLemmas.{one_of}
@@ -14,7 +15,7 @@ module _ {V T : Type 0} where
   -- the folder tells what it holds, and no call of it has failed
   pub record IsSteady (w : World V T) : Type 0 where
     pub told : w.told ≡ true
-    pub unfailed : w.faults ≡ 0
+    pub unfailed : w.tally.count ≡ 0
 
   -- two scenes are one, and steady
   pub record IsOneScene (x y : Scene V T) : Type 0 where

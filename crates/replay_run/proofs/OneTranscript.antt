@@ -12,7 +12,7 @@ use Rattle.prefs_text.specs.declared.seen.AnswerSeen.{AnswerSeen}
 use Rattle.prefs_text.specs.declared.seen.AnswerSeen.TheVariants as seen
 use Rattle.prefs_text.specs.EntryText.{PrefEntry}
 use Rattle.shelf.specs.declared.store.Store.{Store}
-use Rattle.shelf.specs.World.{World}
+use Rattle.step_table.specs.World.{World}
 use Rattle.shelf.proofs.ReadingLemmas.{one_base}
 use Rattle.script_lang.specs.declared.file_seen.FileSeen.{FileSeen}
 use Rattle.script_lang.specs.declared.script.Script.{Script}

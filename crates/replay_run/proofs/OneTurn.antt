@@ -6,14 +6,15 @@ use Rattle.store_traits.specs.declared.update_error.UpdateError.{UpdateError}
 use Rattle.store_traits.specs.declared.update_error.UpdateError.TheVariants as error
 use Rattle.hist_journal.specs.declared.seen.BaseSeen.{BaseSeen}
 use Rattle.hist_journal.specs.declared.seen.BaseSeen.TheVariants.{Held, Corrupt, TooLong}
-use Rattle.shelf.specs.declared.progress.Progress.{Progress}
-use Rattle.shelf.specs.declared.progress.Progress.TheVariants.{Ended}
 use Rattle.shelf.specs.declared.store.Limits.{Limits}
 use Rattle.shelf.specs.declared.store.Store.{Store}
-use Rattle.shelf.specs.Calls.{At, Call, First, ReadingFirst, Reading, Gone, ended, is_gone}
-use Rattle.shelf.specs.Turn.{Turn, dies_now, has_died_by}
-use Rattle.shelf.specs.World.{Rules, World}
+use Rattle.shelf.specs.Rules.{Rules}
 use Rattle.shelf.proofs.ReadingLemmas.{one_base}
+use Rattle.step_table.specs.declared.progress.Progress.{Progress}
+use Rattle.step_table.specs.declared.progress.Progress.TheVariants.{Ended}
+use Rattle.step_table.specs.Calls.{At, Call, First, ReadingFirst, Reading, Gone, ended, is_gone}
+use Rattle.step_table.specs.Turn.{Turn, dies_now, has_died_by}
+use Rattle.step_table.specs.World.{World}
 use Rattle.replay_run.proofs.LineLemmas.{one_of}
 use Rattle.replay_run.proofs.Outcomes.{Outcome, came, turn_to}
 use Rattle.replay_run.proofs.RowOutcomes.{AppliedComes, ComesOf, DeadComes, DyingComes, HasNone, HasSpace, LockComes, ReadComes, RowComes, SizedComes, TurnComes, turn_comes}
@@ -98,7 +99,7 @@ module _ {V T : Type 0} (r : Rules V T) (read_once : (bytes : List ℕ) (a b : V
 pub record ComesTo {V T M : Type 0} (r : Rules V T) (s : Store V M) (w : World V T) (c : Call V T) (o : Outcome V T) : Type 0 where
   pub turn : Turn r s (turn_to w c o.world o.call) o.gave
   pub memory : o.gave ≡ Ended (Err error.NoMemory) → ⊥
-  pub unfailed : o.world.faults ≡ w.faults
+  pub unfailed : o.world.tally.count ≡ w.tally.count
 
 module _ {V T : Type 0} (r : Rules V T) (w : World V T) (c : Call V T) where
   abbrev begun : Call V T
@@ -107,7 +108,7 @@ module _ {V T : Type 0} (r : Rules V T) (w : World V T) (c : Call V T) where
   abbrev TurnIs : Limits → Outcome V T → Type 0
   TurnIs limits o = TurnComes r limits w begun (is_gone c.at) (has_died_by (turn_to w begun w begun)) (dies_now (turn_to w begun w begun)) o
 
-  module _ {M : Type 0} (read_once : (bytes : List ℕ) (a b : V) → r.reads bytes a → r.reads bytes b → a ≡ b) (told : w.told ≡ true) (none : w.faults ≡ 0) where
+  module _ {M : Type 0} (read_once : (bytes : List ℕ) (a b : V) → r.reads bytes a → r.reads bytes b → a ≡ b) (told : w.told ≡ true) (none : w.tally.count ≡ 0) where
     turn_is : (s : Store V M) (o : Outcome V T) → ComesTo r s w c o → TurnIs s.limits o
     turn_is s o it = turn_comes r s w begun told none o.world o.call it.unfailed (is_gone c.at) (has_died_by (turn_to w begun w begun)) (dies_now (turn_to w begun w begun)) o.gave it.turn it.memory
 

@@ -4,8 +4,8 @@ use Rattle.std.specs.List.{list_any}
 use Rattle.std.proofs.lemmas.Bool.{or_parts}
 use Rattle.std.proofs.lemmas.Option.{slice_get_cases}
 use Rattle.shelf.specs.declared.store.Store.{Store}
-use Rattle.shelf.specs.Calls.{Call}
-use Rattle.shelf.specs.World.{Rules}
+use Rattle.step_table.specs.Calls.{Call}
+use Rattle.shelf.specs.Rules.{Rules}
 use Rattle.shelf.proofs.Bools.{never}
 use Rattle.replay_run.specs.ClientKeeps.{KeepsClient, KeepsRunning}
 use Rattle.replay_run.specs.Run.{IsOver}

@@ -7,6 +7,8 @@ use Rattle.store_traits.specs.declared.ids.CallId.{CallId}
 use Rattle.store_traits.specs.declared.ids.NodeId.{NodeId}
 use Rattle.store_traits.specs.declared.update_error.UpdateError.{UpdateError}
 use Rattle.store_traits.specs.declared.update_error.UpdateError.TheVariants as error
+use Rattle.folder_disk.specs.declared.call.FolderCall.{FolderCall}
+use Rattle.folder_disk.specs.Tally.{Tally}
 use Rattle.folder_disk.specs.Contents.{Contents}
 use Rattle.hist_journal.specs.declared.device.Device.TheVariants.{Folder}
 use Rattle.hist_journal.specs.declared.seen.EntrySeen.{EntrySeen}
@@ -16,23 +18,24 @@ use Rattle.hist_journal.specs.Folds.{edition_of}
 use Rattle.hist_journal.specs.Nodes.{is_ready}
 use Rattle.hist_journal.specs.Kinds.{is_node}
 use Rattle.hist_journal.proofs.NodeLemmas.{is_ready-push}
-use Rattle.shelf.specs.declared.progress.Progress.{Progress}
-use Rattle.shelf.specs.declared.progress.Progress.TheVariants.{Moved, Blocked, Ended}
 use Rattle.shelf.specs.declared.store.Store.{Store}
-use Rattle.shelf.specs.ApplyRow.{Applies}
-use Rattle.shelf.specs.Calls.{At, First, ReadingFirst, Migrating, Finishing, Reading, Raising, Creating, Appending, SyncingScratch, Renaming, SyncingFolder, Gone, is_gone}
-use Rattle.shelf.specs.Effects.{Does, DoesLast, Fails, Stops, with_entries}
+use Rattle.shelf.specs.Entries.{with_entries, is_death}
 use Rattle.shelf.specs.Endings.{synced_kinds}
-use Rattle.shelf.specs.Entries.{is_death}
-use Rattle.shelf.specs.LastRows.{kept_edit}
-use Rattle.shelf.specs.LockRow.{Waits}
-use Rattle.shelf.specs.ReadRows.{ReadRow, ToMigrations}
-use Rattle.shelf.specs.Turn.{Row, Turn, TurnBy, begin, dies_now, has_died_by}
-use Rattle.shelf.specs.World.{Rules, World, Turned}
+use Rattle.shelf.specs.Rules.{Rules}
 use Rattle.shelf.proofs.Bools.{never}
 use Rattle.shelf.proofs.DeathLemmas.{has_not_died, none_of_node}
-use Rattle.shelf.proofs.GrowthLemmas.{all_added, entries_of}
-use Rattle.shelf.proofs.StepLemmas.{ended_leaves, not_freed}
+use Rattle.step_table.specs.declared.progress.Progress.{Progress}
+use Rattle.step_table.specs.declared.progress.Progress.TheVariants.{Moved, Blocked, Ended}
+use Rattle.step_table.specs.ApplyRow.{Applies}
+use Rattle.step_table.specs.Calls.{At, First, ReadingFirst, Migrating, Finishing, Reading, Raising, Creating, Appending, SyncingScratch, Renaming, SyncingFolder, Gone, is_gone}
+use Rattle.step_table.specs.Effects.{Does, DoesLast, Fails, Stops}
+use Rattle.step_table.specs.LastRows.{kept_edit}
+use Rattle.step_table.specs.LockRow.{Waits}
+use Rattle.step_table.specs.ReadRows.{ReadRow, ToMigrations}
+use Rattle.step_table.specs.Turn.{Row, Turn, TurnBy, begin, dies_now, has_died_by}
+use Rattle.step_table.specs.World.{World, Turned}
+use Rattle.step_table.proofs.GrowthLemmas.{all_added, entries_of}
+use Rattle.step_table.proofs.StepLemmas.{ended_leaves, not_freed}
 use Rattle.node_core.specs.Knows.{Knows}
 use Rattle.node_core.specs.Phases.{is_finishing, is_holding}
 use Rattle.node_core.specs.Plans.{PlanAt}
@@ -68,10 +71,10 @@ module _ {V T : Type 0} where
     pub added : t.world_after.history ≡ t.world.history ++ entries_of t.call.id kinds
     pub alive : list_any dies (entries_of t.call.id kinds) ≡ false
     pub deaths : t.world_after.deaths ≡ t.world.deaths
-    pub smooth : t.world_after.faults ≡ 0 → list_any stumbles (entries_of t.call.id kinds) ≡ false
+    pub smooth : t.world_after.tally.count ≡ 0 → list_any stumbles (entries_of t.call.id kinds) ≡ false
 
   module _ (t : Turned V T) where
-    own_with : (kinds : List (KindSeen V T)) (now : World V T) → list_any dies (entries_of t.call.id kinds) ≡ false → (t.world_after.faults ≡ 0 → list_any stumbles (entries_of t.call.id kinds) ≡ false) → t.world_after ≡ now → now.history ≡ with_entries t.call.id kinds t.world.history → now.deaths ≡ t.world.deaths → AddsOwn t
+    own_with : (kinds : List (KindSeen V T)) (now : World V T) → list_any dies (entries_of t.call.id kinds) ≡ false → (t.world_after.tally.count ≡ 0 → list_any stumbles (entries_of t.call.id kinds) ≡ false) → t.world_after ≡ now → now.history ≡ with_entries t.call.id kinds t.world.history → now.deaths ≡ t.world.deaths → AddsOwn t
     own_with kinds now alive smooth is added deaths =
         record {
           kinds = kinds;
@@ -81,14 +84,14 @@ module _ {V T : Type 0} where
           smooth = smooth;
         }
 
-    does_own : {Makes : Contents → Contents → Type 0} {kinds : List (KindSeen V T)} {at : At V T} → list_any dies (entries_of t.call.id kinds) ≡ false → list_any stumbles (entries_of t.call.id kinds) ≡ false → Does t Makes kinds at → AddsOwn t
+    does_own : {asked : FolderCall} {Makes : Contents → Contents → Type 0} {kinds : List (KindSeen V T)} {at : At V T} → list_any dies (entries_of t.call.id kinds) ≡ false → list_any stumbles (entries_of t.call.id kinds) ≡ false → Does t asked Makes kinds at → AddsOwn t
     does_own {kinds = kinds} alive smooth it = own_with kinds _ alive (λ unfailed. smooth) it.world refl refl
 
-    last_own : {Makes : Contents → Contents → Type 0} {kinds : List (KindSeen V T)} → list_any dies (entries_of t.call.id kinds) ≡ false → list_any stumbles (entries_of t.call.id kinds) ≡ false → DoesLast t Makes kinds → AddsOwn t
+    last_own : {Asks : Tally → Tally → Type 0} {Makes : Contents → Contents → Type 0} {kinds : List (KindSeen V T)} → list_any dies (entries_of t.call.id kinds) ≡ false → list_any stumbles (entries_of t.call.id kinds) ≡ false → DoesLast t Asks Makes kinds → AddsOwn t
     last_own {kinds = kinds} alive smooth it = own_with kinds _ alive (λ unfailed. smooth) it.world refl refl
 
-    fails_own : {Part : Contents → Contents → Type 0} → Fails t Part → AddsOwn t
-    fails_own it = own_with (Fault Folder t.world_after.faults ∷ []) _ refl (λ unfailed. absurd (not_risen t.world.faults t.world_after.faults unfailed it.count)) it.world refl refl
+    fails_own : {asked : FolderCall} {Part : Contents → Contents → Type 0} → Fails t asked Part → AddsOwn t
+    fails_own it = own_with (Fault Folder t.world_after.tally.count ∷ []) _ refl (λ unfailed. absurd (not_risen t.world.tally.count t.world_after.tally.count unfailed it.tally.counts.cause)) it.world refl refl
 
     stops_own : Stops t → AddsOwn t
     stops_own it = own_with [] _ refl (λ unfailed. refl) it.world refl refl

@@ -1,5 +1,5 @@
 -- A run of the small store is shown by computing it.
-use Rattle.std.proofs.Common.{◌≡◌, ◌∙◌, inl, inr, ℕ, suc, zero, ◌+◌, ◌==◌, nat_le, Bool, true, false, ◌&&◌, not, List, [], ◌∷◌, Option, Some, None, refl, sym, ap, arith, length, slice_get, slice_set, if◌then◌else◌, Result, Ok, Err}
+use Rattle.std.proofs.Common.{◌≡◌, ◌∙◌, inl, inr, ℕ, suc, zero, ◌+◌, ◌==◌, ◌-◌, ◌^◌, nat_lt, nat_le, Bool, true, false, ◌&&◌, not, List, [], ◌∷◌, Option, Some, None, refl, sym, ap, arith, length, slice_get, slice_set, if◌then◌else◌, Result, Ok, Err}
 use Rattle.std.proofs.lemmas.Bool.{eqb-true, and_parts as both_parts, not-true as not_true}
 use Rattle.std.proofs.lemmas.Bool.Decides.{nat_tests}
 use Rattle.store_traits.specs.declared.applied.Applied.{Applied}
@@ -7,20 +7,23 @@ use Rattle.store_traits.specs.declared.applied.Applied.TheVariants.{Changed, Ref
 use Rattle.store_traits.specs.declared.ids.NodeId.{NodeId}
 use Rattle.store_traits.specs.declared.update_error.UpdateError.{UpdateError}
 use Rattle.store_traits.specs.declared.update_error.UpdateError.TheVariants as error
+use Rattle.folder_disk.specs.declared.call.FolderCall.TheVariants.{ReadMain}
+use Rattle.folder_disk.specs.Due as plan
 use Rattle.hist_journal.specs.Folds.{edition_of}
 use Rattle.shelf.specs.declared.examples.ExampleEdit.{ExampleEdit}
-use Rattle.shelf.specs.declared.progress.Progress.{Progress}
-use Rattle.shelf.specs.declared.progress.Progress.TheVariants.{Moved, Blocked, Ended}
 use Rattle.shelf.specs.declared.store.Store.{Store}
-use Rattle.shelf.specs.Calls.{At, Call, Reading, ended}
-use Rattle.shelf.specs.Effects.{freed}
+use Rattle.shelf.specs.Ledger.{freed}
 use Rattle.shelf.specs.ExampleStore.{after}
-use Rattle.shelf.specs.ExampleTurns.{rules}
-use Rattle.shelf.specs.Runs as shelf
-use Rattle.shelf.specs.Turn.{Turn, begin, dies_now, has_died_by}
-use Rattle.shelf.specs.World.{Turned, World}
 use Rattle.shelf.proofs.Bools.{never}
-use Rattle.shelf.proofs.Played.{Run-computed, all_fine, scene_at}
+use Rattle.step_table.proofs.Tallied.{well_so, went_well}
+use Rattle.step_table.specs.declared.progress.Progress.{Progress}
+use Rattle.step_table.specs.declared.progress.Progress.TheVariants.{Moved, Blocked, Ended}
+use Rattle.step_table.specs.Calls.{At, Call, Reading, ended}
+use Rattle.step_table.specs.ExampleTurns.{rules}
+use Rattle.step_table.specs.Runs as shelf
+use Rattle.step_table.specs.Turn.{Turn, begin, dies_now, has_died_by}
+use Rattle.step_table.specs.World.{Turned, World}
+use Rattle.step_table.proofs.Played.{Run-computed, all_fine, scene_at}
 use Rattle.replay_run.specs.Order.{DoesAll, Does, Go, GoesTimes, Order, Task, Update, with_edit}
 use Rattle.replay_run.specs.Run.{GoesEach, IsOver, IsRun, Rounds, start_of}
 use Rattle.replay_run.specs.Scene.{Client, Scene}
@@ -82,7 +85,7 @@ module _ (s : Store ℕ (Unit {0})) (none : s.migrations ≡ []) where
 
     -- a turn in which the edit is refused
     abbrev refused_world : World ℕ ExampleEdit
-    refused_world = record w { owner = freed c.id w.owner }
+    refused_world = record w { tally = went_well ReadMain w.tally; owner = freed c.id w.owner }
 
     abbrev before : At ℕ ExampleEdit → Turned ℕ ExampleEdit
     before at = record { world = w; call = record c { at = at }; world_after = refused_world; call_after = ended (begin (record { world = w; call = c; world_after = w; call_after = c })).call }
@@ -93,8 +96,12 @@ module _ (s : Store ℕ (Unit {0})) (none : s.migrations ≡ []) where
     abbrev is_alive : At ℕ ExampleEdit → Bool
     is_alive at = not (has_died_by (begin (before at))) && not (dies_now (begin (before at)))
 
-    refused : (at : At ℕ ExampleEdit) (main : Option (List ℕ)) (code : ℕ) → w.folder.main ≡ main → refusal_by at main ≡ Some code → is_alive at ≡ true → nat_le 1 s.limits.file ≡ true → Turn rules s (before at) (refusal code)
-    refused (Reading edit) (Some (n ∷ [])) code is_main is alive fits =
+    -- main is read well
+    abbrev is_due : Bool
+    is_due = not (plan.fails ReadMain w.tally.due) && nat_lt w.tally.count (2 ^ 64 - 1)
+
+    refused : (at : At ℕ ExampleEdit) (main : Option (List ℕ)) (code : ℕ) → w.folder.main ≡ main → refusal_by at main ≡ Some code → is_alive at ≡ true → is_due ≡ true → nat_le 1 s.limits.file ≡ true → Turn rules s (before at) (refusal code)
+    refused (Reading edit) (Some (n ∷ [])) code is_main is alive due fits =
         let lives = both_parts (not (has_died_by (begin (before (Reading edit))))) (not (dies_now (begin (before (Reading edit))))) alive in
         let not_dead : has_died_by (begin (before (Reading edit))) ≡ false = not_true _ lives.0 in
         let not_dying : dies_now (begin (before (Reading edit))) ≡ false = not_true _ lives.1 in
@@ -102,12 +109,12 @@ module _ (s : Store ℕ (Unit {0})) (none : s.migrations ≡ []) where
         (record {
           value = n;
           read = λ told. rw is_main (grind (arith, nat_tests, fits), refl);
-          then = (code_so (after edit n) code is, refl, record { folder = λ told. refl; faults = omega arith; world = refl; call = refl });
+          then = (code_so (after edit n) code is, refl, record { folder = λ told. refl; tally = well_so w.told ReadMain w.tally due; world = refl; call = refl });
         })
-    refused (Reading edit) (Some (n ∷ m ∷ more)) code is_main is alive fits = none_refused code is
-    refused (Reading edit) (Some []) code is_main is alive fits = none_refused code is
-    refused (Reading edit) None code is_main is alive fits = none_refused code is
-    refused at main code is_main is alive fits = none_refused code is
+    refused (Reading edit) (Some (n ∷ m ∷ more)) code is_main is alive due fits = none_refused code is
+    refused (Reading edit) (Some []) code is_main is alive due fits = none_refused code is
+    refused (Reading edit) None code is_main is alive due fits = none_refused code is
+    refused at main code is_main is alive due fits = none_refused code is
 
     -- what comes of a turn: where the edit is not refused, the first of these that follows the table
     abbrev gives : Gave
@@ -130,22 +137,23 @@ module _ (s : Store ℕ (Unit {0})) (none : s.migrations ≡ []) where
     is_answer other = true
 
     abbrev right_by : Option ℕ → Bool
-    right_by (Some code) = is_alive c.at && nat_le 1 s.limits.file
+    right_by (Some code) = (is_alive c.at && is_due) && nat_le 1 s.limits.file
     right_by None = fits gives
 
     abbrev code_now : Option ℕ
     code_now = refusal_by c.at w.folder.main
 
     abbrev is_right : Bool
-    is_right = (is_answer (gave_by code_now) && ((world_by code_now).faults == w.faults)) && right_by code_now
+    is_right = (is_answer (gave_by code_now) && ((world_by code_now).tally.count == w.tally.count)) && right_by code_now
 
     no_memory : (gave : Gave) → is_answer gave ≡ true → gave ≡ Ended (Err error.NoMemory) → ⊥
     no_memory gave is same = let none_given : is_answer gave ≡ false = ap (λ (g : Gave). is_answer g) same in never (sym none_given ∙ is)
 
     turn_so : (code : Option ℕ) → code_now ≡ code → right_by code ≡ true → Played s w c (gave_by code) (world_by code) (call_by code)
     turn_so (Some code) is right =
-        let both = both_parts (is_alive c.at) (nat_le 1 s.limits.file) right in
-        record { turn = refused c.at w.folder.main code refl is both.0 both.1 }
+        let both = both_parts (is_alive c.at && is_due) (nat_le 1 s.limits.file) right in
+        let first = both_parts (is_alive c.at) is_due both.0 in
+        record { turn = refused c.at w.folder.main code refl is first.0 first.1 both.1 }
     turn_so None is right = played gives right
 
   -- the client at this place goes
@@ -184,8 +192,8 @@ module _ (s : Store ℕ (Unit {0})) (none : s.migrations ≡ []) where
     gone_so client (Some call) was works fine =
         let code = code_now scene.world call in
         let gave = gave_by scene.world call code in
-        let both = both_parts (is_answer scene.world call gave && ((world_by scene.world call code).faults == scene.world.faults)) (right_by scene.world call code) fine in
-        let first = both_parts (is_answer scene.world call gave) ((world_by scene.world call code).faults == scene.world.faults) both.0 in
+        let both = both_parts (is_answer scene.world call gave && ((world_by scene.world call code).tally.count == scene.world.tally.count)) (right_by scene.world call code) fine in
+        let first = both_parts (is_answer scene.world call gave) ((world_by scene.world call code).tally.count == scene.world.tally.count) both.0 in
         inl
         (record {
           client = client;
@@ -199,7 +207,7 @@ module _ (s : Store ℕ (Unit {0})) (none : s.migrations ≡ []) where
                 works = works;
                 turn = (turn_so scene.world call code refl both.1).turn;
                 memory = no_memory scene.world call gave first.0;
-                unfailed = eqb-true (world_by scene.world call code).faults scene.world.faults first.1;
+                unfailed = eqb-true (world_by scene.world call code).tally.count scene.world.tally.count first.1;
                 now = refl;
               };
           now = refl;

@@ -5,7 +5,7 @@ use Rattle.std.proofs.lemmas.List.{length-map, length-set}
 use Rattle.std.proofs.lemmas.List.FromFn.{length-enumerate_from}
 use Rattle.store_traits.specs.declared.ids.NodeId.{NodeId}
 use Rattle.shelf.specs.declared.store.Store.{Store}
-use Rattle.shelf.specs.World.{Rules}
+use Rattle.shelf.specs.Rules.{Rules}
 use Rattle.replay_run.specs.Order.{Does, DoesAll, Go, GoesTimes, Order, Task, Update, with_edit}
 use Rattle.replay_run.specs.Run.{GoesEach, IsRun, Rounds, new_client, start_of}
 use Rattle.replay_run.specs.Scene.{Scene}

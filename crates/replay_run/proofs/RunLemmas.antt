@@ -1,7 +1,7 @@
 -- Runs grow at their end: by a step, a round, a line.
 use Rattle.std.proofs.Common.{◌≡◌, inr, ◌≤◌, ◌+◌, ℕ, suc, zero, false, List, [], ◌∷◌, ◌++◌, Some, slice_get, refl, subst, arith}
 use Rattle.shelf.specs.declared.store.Store.{Store}
-use Rattle.shelf.specs.World.{Rules}
+use Rattle.shelf.specs.Rules.{Rules}
 use Rattle.replay_run.specs.Order.{Does, DoesAll, GoesTimes, Order}
 use Rattle.replay_run.specs.Run.{GoesEach, Round, Rounds}
 use Rattle.replay_run.specs.Scene.{Client, Scene}

@@ -4,11 +4,11 @@ use Rattle.std.proofs.lemmas.Bool.{eq-eqb, ne_eqb as unequal}
 use Rattle.std.proofs.lemmas.List.Concat.{flat_map-append}
 use Rattle.store_traits.specs.declared.ids.NodeId.{NodeId}
 use Rattle.store_traits.specs.declared.update_error.UpdateError.{UpdateError}
-use Rattle.shelf.specs.declared.progress.Progress.{Progress}
-use Rattle.shelf.specs.declared.progress.Progress.TheVariants.{Moved, Blocked, Ended}
+use Rattle.step_table.specs.declared.progress.Progress.{Progress}
+use Rattle.step_table.specs.declared.progress.Progress.TheVariants.{Moved, Blocked, Ended}
 use Rattle.shelf.specs.declared.store.Store.{Store}
-use Rattle.shelf.specs.Calls.{Call}
-use Rattle.shelf.specs.World.{Rules}
+use Rattle.step_table.specs.Calls.{Call}
+use Rattle.shelf.specs.Rules.{Rules}
 use Rattle.replay_run.specs.Order.{Adds, AreServed, Does, DoesAll, Go, GoesTimes, IsServed, Order, Task, Update, edits_for, task_edits, with_edit}
 use Rattle.replay_run.specs.Run.{GoesEach, IsRun, Rounds, start_of}
 use Rattle.replay_run.specs.Scene.{Client, Scene}

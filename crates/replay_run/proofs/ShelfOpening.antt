@@ -3,6 +3,7 @@ use Rattle.std.proofs.Common.{◌≡◌, ◌∙◌, ◌<◌, ℕ, Bool, true, fa
 use Rattle.std.proofs.lemmas.List.Elements.{All-weaker}
 use Rattle.store_traits.specs.declared.ids.CallId.{CallId}
 use Rattle.store_traits.specs.declared.ids.NodeId.{NodeId}
+use Rattle.folder_disk.specs.Due.{Due}
 use Rattle.folder_disk.specs.contracts.mem_folder.MemFolderFolder.TheImpl as folder
 use Rattle.folder_disk.specs.declared.mem_folder.MemFolder.{MemFolder}
 use Rattle.folder_disk.specs.Contents.{Contents, Gone, Images, Kept, Scratch, Starts}
@@ -24,7 +25,7 @@ use Rattle.shelf.specs.AddsNode.{is_among}
 use Rattle.shelf.specs.Base.{HasItsBase, ReadsAs}
 use Rattle.shelf.specs.Opening.{Opens}
 use Rattle.shelf.specs.ShelfSeen.{ShelfSeen, shelf_seen}
-use Rattle.shelf.specs.World.{World}
+use Rattle.step_table.specs.World.{World}
 use Rattle.node_core.specs.Views.{world_seen}
 use Rattle.script_lang.specs.declared.script.Script.{Script}
 use Rattle.script_lang.specs.Chronicle.{nodes_of}
@@ -33,7 +34,7 @@ use Rattle.replay_run.specs.declared.prefs_parts.PrefsParts.{PrefsParts}
 use Rattle.replay_run.specs.declared.stage.Stage.{Stage}
 use Rattle.replay_run.specs.NewClients.{AreNew}
 use Rattle.replay_run.specs.PrefsBasis.{prefs_basis}
-use Rattle.replay_run.specs.Run.{new_clients, start_of, world_of}
+use Rattle.replay_run.specs.Run.{new_clients, start_of, tally_at_start, world_of}
 use Rattle.replay_run.specs.Scene.{Client, Scene}
 use Rattle.replay_run.specs.SceneKeeps.{SceneKeeps}
 use Rattle.replay_run.specs.ShelfOpens.{ShelfOpens, first_nodes, with_nodes}
@@ -89,17 +90,28 @@ module _ (script : Script) (unreplaced : script.start.replace ≡ false) (shelf 
       ∙ (ap (λ (x : Option (List ℕ)). record { main = s.main; scratch = Gone; kept = Images (s.main ∷ []); first = x; alone = now.alone }) first
       ∙ ap (λ (x : Bool). record (fresh_contents s.main) { alone = x }) alone)))
 
+  -- the tally is that of the new folder, whose count is the store's
+  tally_starts : tally_of shelf.folder ≡ tally_at_start s.folder.count
+  tally_starts =
+      let now : Tally = tally_of shelf.folder in
+      let count : now.count ≡ s.folder.count = tallies.count ∙ sym opens.count in
+      let due : now.due ≡ (fresh_tally []).due = tallies.due refl ∙ ap (λ (t : Tally). t.due) tally in
+      let most : now.most ≡ most_of s.folder.count (fresh_tally []).due =
+      tallies.most refl ∙ (ap (λ (n : ℕ). most_of n (tally_of first).due) (sym opens.count) ∙ ap (λ (t : Tally). most_of s.folder.count t.due) tally) in
+      ap (λ (n : ℕ). record now { count = n }) count
+      ∙ (ap (λ (x : Option ℕ). record now { count = s.folder.count; most = x }) most ∙ ap (λ (x : Due). record (tally_at_start s.folder.count) { due = x }) due)
+
   world_starts : world_in shelf ≡ world_of s
   world_starts =
       let now : World Value Change = world_in shelf in
-      let with_parts : Contents → Option CallId → List (EntrySeen Value Change) → ℕ → ℕ → World Value Change =
-      λ folder owner list version faults. record { told = true; folder = folder; sections = []; owner = owner; history = list; deaths = []; version = version; faults = faults } in
+      let with_parts : Contents → Option CallId → List (EntrySeen Value Change) → ℕ → Tally → World Value Change =
+      λ folder owner list version counted. record { told = true; folder = folder; sections = []; owner = owner; history = list; deaths = []; version = version; tally = counted } in
       let version : now.version ≡ 0 = ap (λ (list : List (EntrySeen Value Change)). raises_of list) opens.list ∙ no_raise in
-      ap (λ (x : Contents). with_parts x now.owner now.history now.version now.faults) folder_is
-      ∙ (ap (λ (x : Option CallId). with_parts (fresh_contents s.main) x now.history now.version now.faults) opens.owner
-      ∙ (ap (λ (x : List (EntrySeen Value Change)). with_parts (fresh_contents s.main) None x now.version now.faults) opens.list
-      ∙ (ap (λ (x : ℕ). with_parts (fresh_contents s.main) None [] x now.faults) version
-      ∙ ap (λ (x : ℕ). with_parts (fresh_contents s.main) None [] 0 x) (tallies.count ∙ sym opens.count))))
+      ap (λ (x : Contents). with_parts x now.owner now.history now.version now.tally) folder_is
+      ∙ (ap (λ (x : Option CallId). with_parts (fresh_contents s.main) x now.history now.version now.tally) opens.owner
+      ∙ (ap (λ (x : List (EntrySeen Value Change)). with_parts (fresh_contents s.main) None x now.version now.tally) opens.list
+      ∙ (ap (λ (x : ℕ). with_parts (fresh_contents s.main) None [] x now.tally) version
+      ∙ ap (λ (x : Tally). with_parts (fresh_contents s.main) None [] 0 x) tally_starts)))
 
   based : HasItsBase Reads [] s
   based =

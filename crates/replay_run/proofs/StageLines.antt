@@ -11,7 +11,7 @@ use Rattle.script_lang.specs.declared.run_line.Act.TheVariants as act
 use Rattle.script_lang.specs.declared.run_line.RunLine.{RunLine}
 use Rattle.shelf.specs.declared.store.Store.{Store}
 use Rattle.shelf.specs.AddsNode.{is_among}
-use Rattle.shelf.specs.World.{Rules}
+use Rattle.shelf.specs.Rules.{Rules}
 use Rattle.replay_run.specs.declared.client.Client as own
 use Rattle.replay_run.specs.declared.stage.Stage.{Stage}
 use Rattle.replay_run.specs.Order.{Adds, Go, GoesTimes, Order, Update, with_edit}

@@ -11,16 +11,17 @@ use Rattle.folder_disk.specs.declared.folder.Folder as folder_trait
 use Rattle.folder_disk.specs.declared.mem_folder.MemFolder.{MemFolder}
 use Rattle.hist_journal.specs.Kinds.{is_call}
 use Rattle.prefs_proto.specs.declared.prefs_codec.PrefsCodec.{PrefsCodec}
-use Rattle.shelf.specs.declared.progress.Progress.{Progress}
-use Rattle.shelf.specs.declared.progress.Progress.TheVariants.{Ended}
+use Rattle.step_table.specs.declared.progress.Progress.{Progress}
+use Rattle.step_table.specs.declared.progress.Progress.TheVariants.{Ended}
 use Rattle.shelf.specs.declared.shelf.Shelf.{Shelf}
 use Rattle.shelf.specs.declared.store.Store.{Store}
 use Rattle.shelf.specs.AddsNode.{is_among}
-use Rattle.shelf.specs.Calls.{At, Call, First, Gone}
+use Rattle.step_table.specs.Calls.{At, Call, First, Gone}
 use Rattle.shelf.specs.ShelfSeen.{ShelfSeen, shelf_seen}
-use Rattle.shelf.specs.World.{Rules, World}
+use Rattle.shelf.specs.Rules.{Rules}
+use Rattle.step_table.specs.World.{World}
 use Rattle.shelf.proofs.Bools.{never}
-use Rattle.shelf.proofs.StepLemmas.{itself, same_call}
+use Rattle.shelf.proofs.SameCalls.{itself, same_call}
 use Rattle.node_core.specs.Phases.{is_holding}
 use Rattle.node_core.specs.Ready.{Equipped}
 use Rattle.node_core.specs.Views.{room_of, state_seen}

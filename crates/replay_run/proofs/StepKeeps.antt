@@ -4,8 +4,9 @@ use Rattle.std.specs.List.{enumerate_from}
 use Rattle.std.proofs.lemmas.List.Elements.{All-nil}
 use Rattle.store_traits.specs.declared.ids.NodeId.{NodeId}
 use Rattle.shelf.specs.declared.store.Store.{Store}
-use Rattle.shelf.specs.World.{Begins, Rules}
+use Rattle.shelf.specs.Rules.{Rules}
 use Rattle.shelf.proofs.LegalLemmas.{nothing_stands_in_none}
+use Rattle.step_table.specs.World.{Begins}
 use Rattle.replay_run.specs.ClientKeeps.{KeepsClient}
 use Rattle.replay_run.specs.Order.{Adds}
 use Rattle.replay_run.specs.Run.{new_client, new_clients, start_of, world_of}
@@ -38,7 +39,7 @@ module _ {V T : Type 0} where
 
 -- a run starts as sessions of the store begin
 pub starts_begin : {V T M : Type 0} (s : Store V M) → Begins s (world_of {V = V} {T = T} s)
-starts_begin s = record { main = λ told. refl; sections = refl; alone = λ told alone. refl; owner = refl; history = refl; deaths = refl; version = refl; faults = refl }
+starts_begin s = record { main = λ told. refl; sections = refl; alone = λ told alone. refl; owner = refl; history = refl; deaths = refl; version = refl; count = refl }
 
 module _ {V T M : Type 0} (r : Rules V T) (s : Store V M) where
   -- the scene keeps this from step to step

@@ -14,24 +14,26 @@ use Rattle.hist_journal.specs.declared.seen.KindSeen.{KindSeen}
 use Rattle.hist_journal.specs.Folds.{edition_of}
 use Rattle.hist_journal.specs.Kinds.{is_call}
 use Rattle.hist_journal.specs.Nodes.{is_ready}
-use Rattle.shelf.specs.declared.progress.Progress.{Progress}
-use Rattle.shelf.specs.declared.progress.Progress.TheVariants.{Moved, Blocked, Ended}
 use Rattle.shelf.specs.declared.store.Store.{Store}
-use Rattle.shelf.specs.Calls.{At, Call, First, is_first, is_gone}
 use Rattle.shelf.specs.Entries.{is_any, is_own, is_update}
 use Rattle.shelf.specs.Meanwhile.{NoneOf}
 use Rattle.shelf.specs.Places.{is_up_to}
-use Rattle.shelf.specs.Turn.{Turn}
-use Rattle.shelf.specs.World.{Rules, Turned, World}
+use Rattle.shelf.specs.Rules.{Rules}
 use Rattle.shelf.proofs.Bools.{never}
 use Rattle.shelf.proofs.DeathLemmas.{has_not_died}
-use Rattle.shelf.proofs.GrowthLemmas.{entries_of, none_passes}
-use Rattle.shelf.proofs.StepLemmas.{itself, turn_waits, same_call}
+use Rattle.shelf.proofs.SameCalls.{itself, same_call}
+use Rattle.step_table.specs.declared.progress.Progress.{Progress}
+use Rattle.step_table.specs.declared.progress.Progress.TheVariants.{Moved, Blocked, Ended}
+use Rattle.step_table.specs.Calls.{At, Call, First, is_first, is_gone}
+use Rattle.step_table.specs.Turn.{Turn}
+use Rattle.step_table.specs.World.{Turned, World}
+use Rattle.step_table.proofs.GrowthLemmas.{entries_of, none_passes}
+use Rattle.step_table.proofs.StepLemmas.{turn_waits}
 use Rattle.node_core.specs.Own.{IsFor}
 use Rattle.node_core.specs.Phases.{is_finishing}
 use Rattle.node_core.proofs.Acknowledging.{update_is_acknowledged}
 use Rattle.node_core.proofs.BetweenLemmas.{between_keeps_knowledge}
-use Rattle.node_core.proofs.CauseOfAnswers.{error_has_cause}
+use Rattle.node_core.proofs.CauseOfAnswers.{error_has_cause, told_cause}
 use Rattle.node_core.proofs.ForLemmas.{turn_is_for, still_for}
 use Rattle.node_core.proofs.KeepingLemmas.{turn_keeps_knowledge}
 use Rattle.node_core.proofs.SparingLemmas.{turn_owner, turn_spares}
@@ -75,7 +77,7 @@ module _ {V T M : Type 0} (r : Rules V T) (s : Store V M) where
     abbrev scene_after : Scene V T
     scene_after = record { world = world_after; clients = slice_set scene.clients place now }
 
-    module _ (found : slice_get scene.clients place ≡ Some client) (runs : client.running ≡ Some call) (turn : Turn r s turned gave) (memory : gave ≡ Ended (Err error.NoMemory) → ⊥) (unfailed : world_after.faults ≡ scene.world.faults) (keeps : SceneKeeps r s scene)
+    module _ (found : slice_get scene.clients place ≡ Some client) (runs : client.running ≡ Some call) (turn : Turn r s turned gave) (memory : gave ≡ Ended (Err error.NoMemory) → ⊥) (unfailed : world_after.tally.count ≡ scene.world.tally.count) (keeps : SceneKeeps r s scene)
         (shelf : ShelfKeeps r s scene.world) where
       mine : KeepsClient r s place scene.world client
       mine = keeps.clients place client found
@@ -150,7 +152,7 @@ module _ {V T M : Type 0} (r : Rules V T) (s : Store V M) where
       explains (Ok edition) it = update_is_acknowledged r s kept.edit turned edition it kept.knows kept.is_for
       explains (Err err) it =
           cause_of_less r s (shown_of world_after.history client.answered) (edition_of scene.world.history) call.id kept.edit err world_after.history within_now
-          (error_has_cause r s kept.edit turned err it shelf.told kept.knows shelf.reads kept.is_for (λ died. never (sym (living r s turned keeps.alive) ∙ died)))
+          (told_cause r s kept.edit turned.world.told (edition_of scene.world.history) call.id err world_after.history shelf.told (error_has_cause r s kept.edit turned err it kept.knows shelf.reads kept.is_for (λ died. never (sym (living r s turned keeps.alive) ∙ died))))
 
       leaves_none : (answer : Result ℕ UpdateError) → Turn r s turned (Ended answer) → may_stand answer ≡ false → list_any (is_own is_update call.id) world_after.history ≡ false
       leaves_none (Ok edition) it out = never (sym out)

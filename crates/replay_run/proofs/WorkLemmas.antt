@@ -6,14 +6,15 @@ use Rattle.std.proofs.lemmas.List.Folds.{list_any_none}
 use Rattle.std.proofs.lemmas.Option.{slice_get-get_or, slice_get_within}
 use Rattle.store_traits.specs.declared.ids.CallId.{CallId}
 use Rattle.store_traits.specs.declared.update_error.UpdateError.{UpdateError}
-use Rattle.shelf.specs.declared.progress.Progress.{Progress}
-use Rattle.shelf.specs.declared.progress.Progress.TheVariants.{Moved, Blocked, Ended}
+use Rattle.step_table.specs.declared.progress.Progress.{Progress}
+use Rattle.step_table.specs.declared.progress.Progress.TheVariants.{Moved, Blocked, Ended}
 use Rattle.shelf.specs.declared.store.Store.{Store}
-use Rattle.shelf.specs.Calls.{At, Call, First, Gone, is_first, is_gone}
-use Rattle.shelf.specs.Turn.{Turn}
-use Rattle.shelf.specs.World.{Rules, Turned, World}
+use Rattle.step_table.specs.Calls.{At, Call, First, Gone, is_first, is_gone}
+use Rattle.step_table.specs.Turn.{Turn}
+use Rattle.shelf.specs.Rules.{Rules}
+use Rattle.step_table.specs.World.{Turned, World}
 use Rattle.shelf.proofs.Bools.{never}
-use Rattle.shelf.proofs.StepLemmas.{turn_waits}
+use Rattle.step_table.proofs.StepLemmas.{turn_waits}
 use Rattle.node_core.specs.Phases.{is_finishing, is_holding}
 use Rattle.node_core.specs.StepsLeft.{steps_left}
 use Rattle.node_core.proofs.StepsLemmas.{turn_steps}

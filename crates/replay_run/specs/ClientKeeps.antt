@@ -8,10 +8,11 @@ use Rattle.hist_journal.specs.declared.seen.EntrySeen.{EntrySeen}
 use Rattle.hist_journal.specs.Nodes.{is_ready}
 use Rattle.shelf.specs.declared.store.Store.{Store}
 use Rattle.shelf.specs.Acknowledged.{IsUpdated}
-use Rattle.shelf.specs.Calls.{Call, is_gone}
+use Rattle.step_table.specs.Calls.{Call, is_gone}
 use Rattle.shelf.specs.Causes.{HasCause}
 use Rattle.shelf.specs.Entries.{is_own, is_update}
-use Rattle.shelf.specs.World.{Rules, World}
+use Rattle.shelf.specs.Rules.{Rules}
+use Rattle.step_table.specs.World.{World}
 use Rattle.node_core.specs.Knows.{Knows}
 use Rattle.node_core.specs.Own.{IsFor}
 use Rattle.script_lang.specs.Each.{Each}

@@ -5,8 +5,9 @@ use Rattle.store_traits.specs.declared.ids.CallId.{CallId}
 use Rattle.store_traits.specs.declared.update_error.UpdateError.{UpdateError}
 use Rattle.shelf.specs.declared.store.Store.{Store}
 use Rattle.shelf.specs.AddsNode.{is_among}
-use Rattle.shelf.specs.Calls.{First}
-use Rattle.shelf.specs.World.{Rules, World}
+use Rattle.step_table.specs.Calls.{First}
+use Rattle.shelf.specs.Rules.{Rules}
+use Rattle.step_table.specs.World.{World}
 use Rattle.node_core.specs.Views.{state_seen}
 use Rattle.replay_run.specs.declared.client.Client as own
 use Rattle.replay_run.specs.ClientKeeps.{KeepsRunning}

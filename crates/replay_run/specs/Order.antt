@@ -2,7 +2,7 @@
 use Rattle.std.specs.Prelude.{◌≡◌, ◌==◌, ℕ, suc, zero, List, [], ◌∷◌, ◌++◌, flat_map, Some, slice_get, slice_set, if◌then◌else◌}
 use Rattle.store_traits.specs.declared.ids.NodeId.{NodeId}
 use Rattle.shelf.specs.declared.store.Store.{Store}
-use Rattle.shelf.specs.World.{Rules}
+use Rattle.shelf.specs.Rules.{Rules}
 use Rattle.replay_run.specs.Scene.{Client, Scene}
 use Rattle.replay_run.specs.Step.{Goes}
 

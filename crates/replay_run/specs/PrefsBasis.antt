@@ -5,7 +5,7 @@ use Rattle.prefs_edit.specs.Weight.{edit_weight}
 use Rattle.prefs_proto.specs.Encoded.{encoded}
 use Rattle.prefs_proto.specs.Reads.{Reads}
 use Rattle.script_lang.specs.Chronicle.{Basis}
-use Rattle.shelf.specs.World.{rules_of}
+use Rattle.shelf.specs.Rules.{rules_of}
 
 -- no file stands for the empty map; a file has 1,048,576 bytes at the most, and a history is full at 268,435,456
 abbrev pub prefs_basis : Basis

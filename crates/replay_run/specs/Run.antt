@@ -2,12 +2,18 @@
 use Rattle.std.specs.Prelude.{◌≡◌, ℕ, suc, zero, ◌+◌, true, false, List, [], length, map, None}
 use Rattle.std.specs.List.{enumerate_from, list_any}
 use Rattle.store_traits.specs.declared.ids.NodeId.{NodeId}
-use Rattle.folder_disk.specs.MemFolder.{fresh_contents}
+use Rattle.folder_disk.specs.Tally.{Tally, most_of}
+use Rattle.folder_disk.specs.MemFolder.{fresh_contents, fresh_tally}
 use Rattle.shelf.specs.declared.store.Store.{Store}
-use Rattle.shelf.specs.World.{Rules, World}
+use Rattle.shelf.specs.Rules.{Rules}
+use Rattle.step_table.specs.World.{World}
 use Rattle.replay_run.specs.Order.{DoesAll, Order}
 use Rattle.replay_run.specs.Scene.{Client, Scene}
 use Rattle.replay_run.specs.Step.{Goes, has_work}
+
+-- so many faults, and none planned
+abbrev pub tally_at_start : ℕ → Tally
+tally_at_start count = record (fresh_tally []) { count = count; most = most_of count (fresh_tally []).due }
 
 module _ {V T : Type 0} where
   -- a client of this node at this place, before it is asked for anything
@@ -17,9 +23,9 @@ module _ {V T : Type 0} where
   abbrev pub new_clients : List NodeId → List (Client V T)
   new_clients homes = map (λ placed. new_client placed.0 placed.1) (enumerate_from 0 homes)
 
-  -- the world in which a session of the store starts: the folder tells what it holds, which is main alone, and nothing has happened yet
+  -- the world in which a session of the store starts: the folder tells what it holds, which is main alone, no call of it is planned to fail, and nothing has happened yet
   abbrev pub world_of : {M : Type 0} → Store V M → World V T
-  world_of s = record { told = true; folder = fresh_contents s.main; sections = s.sections; owner = None; history = []; deaths = s.deaths; version = 0; faults = s.folder.count }
+  world_of s = record { told = true; folder = fresh_contents s.main; sections = s.sections; owner = None; history = []; deaths = s.deaths; version = 0; tally = tally_at_start s.folder.count }
 
   -- the scene in which it starts with clients of these nodes
   abbrev pub start_of : {M : Type 0} → Store V M → List NodeId → Scene V T

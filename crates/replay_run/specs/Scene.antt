@@ -4,8 +4,8 @@ use Rattle.store_traits.specs.declared.ids.CallId.{CallId}
 use Rattle.store_traits.specs.declared.ids.ClientId.{ClientId}
 use Rattle.store_traits.specs.declared.ids.NodeId.{NodeId}
 use Rattle.store_traits.specs.declared.update_error.UpdateError.{UpdateError}
-use Rattle.shelf.specs.Calls.{Call}
-use Rattle.shelf.specs.World.{World}
+use Rattle.step_table.specs.Calls.{Call}
+use Rattle.step_table.specs.World.{World}
 
 -- a call, and what it was answered
 pub record Answered : Type 0 where

@@ -6,11 +6,12 @@ use Rattle.hist_journal.specs.declared.seen.EntrySeen.{EntrySeen}
 use Rattle.hist_journal.specs.declared.seen.KindSeen.{KindSeen}
 use Rattle.hist_journal.specs.declared.seen.KindSeen.TheVariants.{Raise, Edit, Same, Synced, Inited}
 use Rattle.shelf.specs.declared.store.Store.{Store}
-use Rattle.shelf.specs.Calls.{Call}
 use Rattle.shelf.specs.Entries.{is_death}
 use Rattle.shelf.specs.Images.{main_at}
 use Rattle.shelf.specs.Legal.{Legal}
-use Rattle.shelf.specs.World.{Rules, World}
+use Rattle.shelf.specs.Rules.{Rules}
+use Rattle.step_table.specs.Calls.{Call}
+use Rattle.step_table.specs.World.{World}
 use Rattle.node_core.specs.Phases.{is_holding}
 use Rattle.node_core.specs.Reading.{ReadsTruly}
 use Rattle.replay_run.specs.ClientKeeps.{KeepsClient}
@@ -53,7 +54,7 @@ module _ {V T M : Type 0} (r : Rules V T) (s : Store V M) where
     pub alive : list_any (λ e. is_death e.kind) scene.world.history ≡ false
     pub unplanned : scene.world.deaths ≡ []
     -- no call of the folder has failed
-    pub unfailed : scene.world.faults ≡ 0
+    pub unfailed : scene.world.tally.count ≡ 0
     pub smooth : list_any (λ e. is_rough e.kind) scene.world.history ≡ false
 
   -- what the shelf keeps of the world by itself

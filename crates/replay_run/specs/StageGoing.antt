@@ -3,7 +3,7 @@ use Rattle.std.specs.Prelude.{◌≡◌, ◌||◌, Bool, List, Some, is_some, ma
 use Rattle.prefs_edit.specs.declared.edit_step.EditStep.{EditStep}
 use Rattle.prefs_model.specs.declared.pref_pair.PrefPair.{PrefPair}
 use Rattle.shelf.specs.declared.store.Store.{Store}
-use Rattle.shelf.specs.World.{Rules}
+use Rattle.shelf.specs.Rules.{Rules}
 use Rattle.script_lang.specs.declared.run_line.RunLine.{RunLine}
 use Rattle.replay_run.specs.declared.client.Client.{Client}
 use Rattle.replay_run.specs.declared.stage.Stage.{Stage}

@@ -2,7 +2,7 @@
 use Rattle.std.specs.Prelude.{◌≡◌, ◌<◌, ℕ, List, [], map, Some}
 use Rattle.prefs_edit.specs.declared.edit_step.EditStep.{EditStep}
 use Rattle.shelf.specs.declared.store.Store.{Store}
-use Rattle.shelf.specs.World.{Rules}
+use Rattle.shelf.specs.Rules.{Rules}
 use Rattle.script_lang.specs.declared.run_line.RunLine.{RunLine}
 use Rattle.script_lang.specs.declared.script.Script.{Script}
 use Rattle.script_lang.specs.declared.session_plan.SessionPlan.{SessionPlan}

@@ -9,9 +9,10 @@ use Rattle.prefs_model.specs.declared.pref_pair.PrefPair.{PrefPair}
 use Rattle.prefs_proto.specs.declared.prefs_codec.PrefsCodec.{PrefsCodec}
 use Rattle.shelf.specs.declared.shelf.Shelf.{Shelf}
 use Rattle.shelf.specs.declared.store.Store.{Store}
-use Rattle.shelf.specs.Calls.{Call}
+use Rattle.step_table.specs.Calls.{Call}
 use Rattle.shelf.specs.ShelfSeen.{ShelfSeen, shelf_seen}
-use Rattle.shelf.specs.World.{Rules, World}
+use Rattle.shelf.specs.Rules.{Rules}
+use Rattle.step_table.specs.World.{World}
 use Rattle.node_core.specs.declared.update_call.UpdateCall.{UpdateCall}
 use Rattle.node_core.specs.Ready.{Equipped, rules_seen}
 use Rattle.node_core.specs.Views.{call_seen, state_seen, world_seen}

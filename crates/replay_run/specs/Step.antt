@@ -2,12 +2,13 @@
 use Rattle.std.specs.Prelude.{◌≡◌, ◌⊎◌, ℕ, ◌+◌, Bool, false, ◌||◌, [], ◌∷◌, ◌++◌, Option, Some, None, is_some, slice_get, slice_set, Result, Err}
 use Rattle.store_traits.specs.declared.update_error.UpdateError.{UpdateError}
 use Rattle.store_traits.specs.declared.update_error.UpdateError.TheVariants.{NoMemory}
-use Rattle.shelf.specs.Calls.{Call, First}
-use Rattle.shelf.specs.declared.progress.Progress.{Progress}
-use Rattle.shelf.specs.declared.progress.Progress.TheVariants.{Ended}
 use Rattle.shelf.specs.declared.store.Store.{Store}
-use Rattle.shelf.specs.Turn.{Turn}
-use Rattle.shelf.specs.World.{Rules, World}
+use Rattle.shelf.specs.Rules.{Rules}
+use Rattle.step_table.specs.Calls.{Call, First}
+use Rattle.step_table.specs.declared.progress.Progress.{Progress}
+use Rattle.step_table.specs.declared.progress.Progress.TheVariants.{Ended}
+use Rattle.step_table.specs.Turn.{Turn}
+use Rattle.step_table.specs.World.{World}
 use Rattle.node_core.specs.Phases.{is_finishing}
 use Rattle.replay_run.specs.Scene.{Client, Scene, call_of}
 
@@ -42,7 +43,7 @@ module _ {V T M : Type 0} (r : Rules V T) (s : Store V M) where
     pub works : (at_work client).running ≡ Some call
     pub turn : Turn r s (record { world = world; call = call; world_after = world_after; call_after = call_after }) gave
     pub memory : gave ≡ Ended (Err NoMemory) → ⊥
-    pub unfailed : world_after.faults ≡ world.faults
+    pub unfailed : world_after.tally.count ≡ world.tally.count
     pub now : client_after ≡ behind_turn (at_work client) call gave call_after
 
   -- the client at this place, counted from 0, does a step, and the others stay as they are

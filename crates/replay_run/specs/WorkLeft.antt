@@ -1,7 +1,7 @@
 -- How many turns the clients have left at most, where none of them is blocked.
 use Rattle.std.specs.Prelude.{◌≡◌, ◌⊎◌, ◌≤◌, ◌<◌, ℕ, ◌+◌, ◌-◌, ◌*◌, Bool, false, Option, Some, None, length, slice_get, sum_by}
 use Rattle.store_traits.specs.declared.ids.CallId.{CallId}
-use Rattle.shelf.specs.Calls.{Call}
+use Rattle.step_table.specs.Calls.{Call}
 use Rattle.node_core.specs.Phases.{is_holding}
 use Rattle.node_core.specs.StepsLeft.{steps_left}
 use Rattle.replay_run.specs.Scene.{Client, Scene}

@@ -76,7 +76,7 @@ impl<'s> Client<'s> {
     ) -> Result<(), AllocError>
         requires number { word.old ≡ raises_of (shelf_seen shelf.old).list }
         requires spare { (shelf_seen shelf.old).store.folder.most ≡ Some 0 }
-        requires unfailed { (world_in shelf.old).faults ≡ 0 }
+        requires unfailed { (world_in shelf.old).tally.count ≡ 0 }
         requires may { MayGo (rules_in shelf.old) (store_in shelf.old) (client_in shelf.old self.old) (world_in shelf.old) }
         requires equipped { EquippedIn shelf.old self.old }
         requires few { vec_len self.old.edits ≤ 100000 }
@@ -101,7 +101,7 @@ impl<'s> Client<'s> {
     ) -> Result<(), AllocError>
         requires number { word.old ≡ raises_of (shelf_seen shelf.old).list }
         requires spare { (shelf_seen shelf.old).store.folder.most ≡ Some 0 }
-        requires unfailed { (world_in shelf.old).faults ≡ 0 }
+        requires unfailed { (world_in shelf.old).tally.count ≡ 0 }
         requires node { is_among self.old.node (shelf_seen shelf.old).store.nodes ≡ true }
         requires keeps { KeepsRunning (rules_in shelf.old) (store_in shelf.old) (client_in shelf.old self.old) (world_in shelf.old) (client_in shelf.old self.old).running }
         requires equipped { EquippedIn shelf.old self.old }

@@ -3,7 +3,7 @@ ghost use Rattle.std.specs.Prelude.{◌≡◌, List};
 ghost use Rattle.prefs_edit.specs.declared.edit_step.EditStep.{EditStep};
 ghost use Rattle.prefs_model.specs.declared.pref_pair.PrefPair.{PrefPair};
 ghost use Rattle.shelf.specs.declared.store.Store.{Store};
-ghost use Rattle.shelf.specs.World.{Begins};
+ghost use Rattle.step_table.specs.World.{Begins};
 ghost use Rattle.script_lang.specs.declared.script.Script.{Script};
 ghost use Rattle.script_lang.specs.declared.transcript.Transcript.{Transcript};
 ghost use Rattle.script_lang.specs.Good.{Good};

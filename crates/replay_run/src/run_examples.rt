@@ -1,7 +1,7 @@
 //! Runs on the small store of the worked histories: what the clients are asked for, and what is there in the end.
 ghost use Rattle.std.specs.Prelude.{◌∷◌, []};
 ghost use Rattle.shelf.specs.ExampleStore as example;
-ghost use Rattle.shelf.specs.ExampleTurns as turns;
+ghost use Rattle.step_table.specs.ExampleTurns as turns;
 ghost use Rattle.replay_run.specs.Run.{IsRun};
 ghost use Rattle.replay_run.specs.RunExamples as runs;
 

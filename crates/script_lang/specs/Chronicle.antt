@@ -14,7 +14,7 @@ use Rattle.shelf.specs.Base.{HasItsBase}
 use Rattle.shelf.specs.FaultCounts.{is_device}
 use Rattle.shelf.specs.Images.{images}
 use Rattle.shelf.specs.Legal.{Legal}
-use Rattle.shelf.specs.World.{Rules}
+use Rattle.shelf.specs.Rules.{Rules}
 use Rattle.script_lang.specs.declared.run_line.RunLine.{RunLine}
 use Rattle.script_lang.specs.declared.script.Script.{Script}
 use Rattle.script_lang.specs.declared.session_plan.SessionPlan.{SessionPlan}

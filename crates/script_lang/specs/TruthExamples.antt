@@ -23,7 +23,7 @@ use Rattle.prefs_text.specs.declared.seen.AnswerSeen.{AnswerSeen}
 use Rattle.prefs_text.specs.declared.seen.AnswerSeen.TheVariants as answer
 use Rattle.prefs_text.specs.declared.seen.AnswerSeen.TheVariants.{Updated, Unchanged, Refused, StorageFault, NotDurable, Died, Posted, Restarted, Cut}
 use Rattle.prefs_text.specs.EntryText.{PrefEntry, PrefKind}
-use Rattle.shelf.specs.World.{rules_of}
+use Rattle.shelf.specs.Rules.{rules_of}
 use Rattle.script_lang.specs.declared.file_seen.FileSeen.TheVariants.{Absent, Bytes}
 use Rattle.script_lang.specs.declared.run_line.Act.TheVariants.{Update, Read, Flow, Post, Restart, Go}
 use Rattle.script_lang.specs.declared.run_line.RunLine.{RunLine}

@@ -19,7 +19,7 @@ use Rattle.shelf.specs.Causes.{HasCause, HasReadCause, IsDead, IsFaulted, IsUnce
 use Rattle.shelf.specs.Entries.{is_any, is_own, is_update, some_entry}
 use Rattle.shelf.specs.Images.{is_synced}
 use Rattle.shelf.specs.Places.{Follows, HasFront, StandsAt, is_up_to}
-use Rattle.shelf.specs.World.{Rules}
+use Rattle.shelf.specs.Rules.{Rules}
 use Rattle.shelf.proofs.Bools.{never, none_in_both, own_first}
 use Rattle.shelf.proofs.RaiseLemmas.{none_of_fewer}
 

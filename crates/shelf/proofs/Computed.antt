@@ -24,7 +24,7 @@ use Rattle.shelf.specs.Readiness.{Initialises}
 use Rattle.shelf.proofs.EntryByEntry.{Needs, fits_where, is_placed}
 use Rattle.shelf.proofs.LegalLemmas.{Legal-empty, Legal-push}
 use Rattle.shelf.proofs.Bools.{never}
-use Rattle.shelf.proofs.StepLemmas.{same_node}
+use Rattle.shelf.proofs.SameCalls.{same_node}
 
 abbrev is_other : ℕ → Applied ℕ → Bool
 is_other old (Changed new) = not (new == old)

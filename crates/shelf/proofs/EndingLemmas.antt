@@ -3,7 +3,7 @@ use Rattle.std.proofs.Common.{◌≡◌, ◌-◌, ◌^◌, min, true, Option, So
 use Rattle.std.specs.List.{list_all}
 use Rattle.hist_journal.specs.Folds.{kind_weight}
 use Rattle.shelf.specs.Endings.{synced_kinds, synced_weight}
-use Rattle.shelf.specs.World.{Rules}
+use Rattle.shelf.specs.Rules.{Rules}
 use Rattle.shelf.proofs.KeptLemmas.{is_plain, weight_of_kinds}
 
 pub synced_plain : (V : Type 0) {T : Type 0} (same : Option T) → list_all (is_plain {V = V} {T = T}) (synced_kinds same) ≡ true

@@ -21,7 +21,7 @@ use Rattle.shelf.specs.ShelfTurns.{FaultFits}
 use Rattle.shelf.proofs.Bools.{never, not_later, one_more}
 use Rattle.shelf.proofs.LateCallLemmas.{EndsOn, late_synced_fits, late_fault}
 use Rattle.shelf.proofs.PendingLemmas.{has_open_raise-push}
-use Rattle.shelf.proofs.StepLemmas.{itself}
+use Rattle.shelf.proofs.SameCalls.{itself}
 
 module _ {V T : Type 0} (call : CallId) where
   -- its node lives, no later call of its client has an entry, and neither a Fault, a Death nor an update of it stands

@@ -1,5 +1,5 @@
 -- What a shelf keeps, from one turn to the next.
-use Rattle.std.proofs.Common.{◌≡◌, ◌∙◌, ◌+◌, ◌-◌, ◌^◌, ◌<◌, ◌≤◌, ◌⊎◌, inl, inr, ⊎_elim, ℕ, min, Bool, true, false, nat_le, IsTrue, List, [], ◌∷◌, ◌++◌, Option, Some, None, length, cond, refl, sym, ap, subst, arith, if◌then◌else◌}
+use Rattle.std.proofs.Common.{◌≡◌, ◌∙◌, ◌+◌, ◌-◌, ◌^◌, ◌<◌, ◌≤◌, inl, inr, ⊎_elim, ℕ, min, Bool, true, false, nat_le, IsTrue, List, [], ◌∷◌, ◌++◌, Option, Some, None, length, cond, refl, sym, ap, subst, arith, if◌then◌else◌}
 use Rattle.std.proofs.Math.Logic.{∥∥₁_map}
 use Rattle.std.specs.List.{list_any, list_all}
 use Rattle.std.proofs.lemmas.Bool.Decides.{nat_tests}
@@ -19,7 +19,7 @@ use Rattle.hist_journal.specs.Kinds.{is_change, is_fault}
 use Rattle.hist_journal.proofs.FoldLemmas.{weight_of-push, main_of-other, main_of-change, value_of-other, edition_of-other}
 use Rattle.shelf.specs.declared.ledger.Ledger.{Ledger}
 use Rattle.shelf.specs.declared.store.Store.{Store}
-use Rattle.shelf.specs.Effects.{with_entries}
+use Rattle.shelf.specs.Entries.{with_entries}
 use Rattle.shelf.specs.FaultCounts.{RaisesCount, has_reached}
 use Rattle.shelf.specs.Kept.{Kept, KeptMain}
 use Rattle.shelf.specs.Ledger.{Enters, LedgerSeen, ledger_seen}
@@ -27,7 +27,7 @@ use Rattle.shelf.specs.Legal.{Fits}
 use Rattle.shelf.specs.Plans.{WritesChange}
 use Rattle.shelf.specs.ShelfTurns.{FitInTurn, FaultFits}
 use Rattle.shelf.specs.StoreSeen.{store_with}
-use Rattle.shelf.specs.World.{Rules, weight_at}
+use Rattle.shelf.specs.Rules.{Rules, weight_at}
 use Rattle.shelf.proofs.Bools.{never}
 use Rattle.shelf.proofs.LegalLemmas.{Legal-push}
 

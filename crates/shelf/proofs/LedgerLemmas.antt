@@ -1,5 +1,5 @@
 -- A ledger with one more entry.
-use Rattle.std.proofs.Common.{◌≡◌, ◌∙◌, ◌+◌, ◌-◌, ◌≤◌, ◌⊎◌, inl, inr, ⊎_elim, ℕ, Bool, true, false, ◌||◌, List, [], ◌∷◌, ◌++◌, Option, Some, None, unwrap_or, cond, length, suc, refl, sym, ap, arith}
+use Rattle.std.proofs.Common.{◌≡◌, ◌∙◌, ◌+◌, ◌≤◌, ◌⊎◌, inl, inr, ⊎_elim, ℕ, Bool, true, false, ◌||◌, List, [], ◌∷◌, ◌++◌, Option, Some, None, unwrap_or, cond, length, suc, refl, sym, ap, arith}
 use Rattle.std.specs.List.{list_any}
 use Rattle.std.proofs.lemmas.Bool.{false_from_ne_true}
 use Rattle.std.proofs.lemmas.List.Folds.{list_any-append}
@@ -17,14 +17,13 @@ use Rattle.hist_journal.proofs.FoldLemmas.{edition_of-push, edition_of-le, editi
 use Rattle.hist_journal.proofs.NodeLemmas.{is_ready-push}
 use Rattle.hist_journal.proofs.QuietLemmas.{pending-push}
 use Rattle.shelf.specs.declared.node_table.NodeState.{NodeState}
-use Rattle.shelf.specs.Effects.{freed}
+use Rattle.shelf.specs.Ledger.{freed, freed_room, is_inner}
 use Rattle.shelf.specs.Entries.{is_death}
-use Rattle.shelf.specs.Ledger.{freed_room, is_inner}
 use Rattle.shelf.specs.NodeStates.{ids, has_node, has_ready}
 use Rattle.shelf.specs.AddsNode.{is_among}
 use Rattle.shelf.proofs.Bools.{never}
 use Rattle.shelf.proofs.PendingLemmas.{still_open}
-use Rattle.shelf.proofs.StepLemmas.{itself, same_call}
+use Rattle.shelf.proofs.SameCalls.{itself, same_call}
 
 -- whoever owns the lock owns nothing once it is freed
 pub freed_own : (call : CallId) (owner : Option CallId) → owner ≡ Some call → freed call owner ≡ None

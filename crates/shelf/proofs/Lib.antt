@@ -7,7 +7,6 @@ pub mod EndingLemmas
 pub mod EntryByEntry
 pub mod FreshLemmas
 pub mod GoingOn
-pub mod GrowthLemmas
 pub mod ImageLemmas
 pub mod KeptLemmas
 pub mod LateCallLemmas
@@ -19,9 +18,8 @@ pub mod OpeningLemmas
 pub mod OrderLemmas
 pub mod PendingLemmas
 pub mod PendingMeanwhile
-pub mod Played
 pub mod RaiseLemmas
 pub mod ReadingLemmas
-pub mod StepLemmas
+pub mod SameCalls
 pub mod StoreLemmas
 pub mod UnlawfulExamples

@@ -1,5 +1,5 @@
 -- What a shelf keeps when it is made, and when a node is added.
-use Rattle.std.proofs.Common.{◌≡◌, ◌∙◌, ◌-◌, ◌≤◌, ◌⊎◌, inl, inr, ⊎_elim, ℕ, Bool, true, false, IsTrue, List, [], None, refl, sym, arith, if◌then◌else◌}
+use Rattle.std.proofs.Common.{◌≡◌, ◌∙◌, ◌≤◌, inl, inr, ⊎_elim, ℕ, Bool, true, false, IsTrue, List, [], None, refl, sym, arith, if◌then◌else◌}
 use Rattle.std.proofs.Math.Logic.{∥∥₁_map}
 use Rattle.folder_disk.specs.Contents.{Contents, Starts}
 use Rattle.folder_disk.specs.Tally.{Tally}
@@ -14,10 +14,10 @@ use Rattle.store_traits.specs.declared.ids.NodeId.{NodeId}
 use Rattle.shelf.specs.Base.{ReadsAs}
 use Rattle.shelf.specs.FaultCounts.{RaisesCount}
 use Rattle.shelf.specs.Kept.{Kept}
-use Rattle.shelf.specs.Legal.{Fits, Legal}
+use Rattle.shelf.specs.Legal.{Fits}
 use Rattle.shelf.specs.NodeStates.{ids}
 use Rattle.shelf.specs.StoreSeen.{store_with}
-use Rattle.shelf.specs.World.{Rules}
+use Rattle.shelf.specs.Rules.{Rules}
 use Rattle.shelf.proofs.LegalLemmas.{Legal-empty}
 
 told_is : {X : Type 0} (told : Bool) (x hidden : X) → IsTrue told → (if told then x else hidden) ≡ x

@@ -16,7 +16,7 @@ use Rattle.shelf.specs.Meanings.{Meanings}
 use Rattle.shelf.specs.OpenRaise.{spends, is_open_raise, has_open_raise}
 use Rattle.shelf.proofs.RaiseLemmas.{open_is_pending}
 use Rattle.shelf.proofs.Bools.{never}
-use Rattle.shelf.proofs.StepLemmas.{itself}
+use Rattle.shelf.proofs.SameCalls.{itself}
 
 open_more : (own spent before p raises : Bool) → ((own && not (spent || p)) || ((before && not p) || raises)) ≡ ((((own && not spent) || before) && not p) || raises)
 open_more false spent before p raises = refl

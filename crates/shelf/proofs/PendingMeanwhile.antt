@@ -11,7 +11,7 @@ use Rattle.shelf.specs.Entries.{is_own}
 use Rattle.shelf.specs.Meanwhile.{NoDeathOf, NoneOf, are_outer}
 use Rattle.shelf.proofs.Bools.{never}
 use Rattle.shelf.proofs.MeanwhileLemmas.{carried, other_parts, outer_is_neither, outer_parts, spared_parts}
-use Rattle.shelf.proofs.StepLemmas.{itself}
+use Rattle.shelf.proofs.SameCalls.{itself}
 
 -- what is of no such call ends nothing of it, unless it is a Death of its node
 ends_nothing : (own is_end dies : Bool) → (own && true) ≡ false → dies ≡ false → ((own && is_end) || dies) ≡ false

@@ -8,7 +8,7 @@ use Rattle.hist_journal.specs.Kinds.{is_call, is_raise, is_change, is_fault, is_
 use Rattle.hist_journal.specs.Quiet.{ends, has_raise, pending}
 use Rattle.shelf.specs.Entries.{some_entry, is_own}
 use Rattle.shelf.specs.OpenRaise.{spends, is_open_raise, has_open_raise}
-use Rattle.shelf.proofs.StepLemmas.{same_call}
+use Rattle.shelf.proofs.SameCalls.{same_call}
 
 -- a stronger test passes nothing where the weaker passes nothing
 pub none_of_fewer : {X : Type 0} (p q : X → Bool) (xs : List X) → ((x : X) → q x ≡ false → p x ≡ false) → list_any q xs ≡ false → list_any p xs ≡ false

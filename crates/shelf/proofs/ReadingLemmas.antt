@@ -20,7 +20,7 @@ use Rattle.shelf.specs.Base.{ReadsAs}
 use Rattle.shelf.specs.Kept.{KeptMain}
 use Rattle.shelf.specs.Legal.{value_at}
 use Rattle.shelf.specs.Loading.{base_of, DecodesAs}
-use Rattle.shelf.specs.World.{Rules}
+use Rattle.shelf.specs.Rules.{Rules}
 
 -- main after a history without a value change, and with one
 no_change : {X : Type 0} (n : ℕ) (main text : X) → n ≡ 0 → (if n == 0 then main else text) ≡ main

@@ -14,7 +14,7 @@ use Rattle.store_traits.specs.declared.read_error.ReadError.TheVariants as read
 use Rattle.shelf.specs.Causes.{HasCause, HasReadCause, IsRefused, IsSince, IsTooLong, IsUncertainSame, IsUnreadable, ReplacesTooLong}
 use Rattle.shelf.specs.PastBounds.{IsFull, IsPastLimit}
 use Rattle.shelf.specs.Places.{HasFront}
-use Rattle.shelf.specs.World.{Rules}
+use Rattle.shelf.specs.Rules.{Rules}
 use Rattle.shelf.specs.FaultCounts.{IsNewCount, RaisesCount, count_at_start}
 use Rattle.shelf.specs.Legal.{Fits, Legal}
 use Rattle.shelf.specs.Meanings.{Meanings}

@@ -19,7 +19,7 @@ use Rattle.shelf.specs.Images.{is_synced}
 use Rattle.shelf.specs.Legal.{value_at}
 use Rattle.shelf.specs.PastBounds.{IsFull, IsPastLimit}
 use Rattle.shelf.specs.Places.{Follows, HasFront, StandsAt, is_fault_of, is_up_to}
-use Rattle.shelf.specs.World.{Rules}
+use Rattle.shelf.specs.Rules.{Rules}
 
 module _ {V T : Type 0} (call : CallId) where
   -- a value change of the call that has no Synced of it behind it

@@ -1,5 +1,5 @@
 -- Words on the entries of a history.
-use Rattle.std.specs.Prelude.{Bool, true, false, ◌&&◌, ◌||◌, List, [], ◌∷◌}
+use Rattle.std.specs.Prelude.{Bool, true, false, ◌&&◌, ◌||◌, List, [], ◌∷◌, ◌++◌}
 use Rattle.store_traits.specs.declared.ids.CallId.{CallId}
 use Rattle.hist_journal.specs.declared.device.Device.TheVariants.{Folder}
 use Rattle.hist_journal.specs.declared.seen.EntrySeen.{EntrySeen}
@@ -40,3 +40,8 @@ module _ {V T : Type 0} where
   is_update_end (Fault Folder count) = true
   is_update_end (Death node) = true
   is_update_end other = false
+
+  -- the history with entries of these kinds at its end
+  abbrev pub with_entries : CallId → List (KindSeen V T) → List (EntrySeen V T) → List (EntrySeen V T)
+  with_entries call [] list = list
+  with_entries call (kind ∷ kinds) list = with_entries call kinds (list ++ record { who = call; kind = kind } ∷ [])

@@ -12,7 +12,7 @@ use Rattle.shelf.specs.Base.{HasItsBase}
 use Rattle.shelf.specs.FaultCounts.{has_reached}
 use Rattle.shelf.specs.Images.{main_at}
 use Rattle.shelf.specs.Legal.{Legal, value_at}
-use Rattle.shelf.specs.World.{Rules, weight_at}
+use Rattle.shelf.specs.Rules.{Rules, weight_at}
 
 -- `IsValue` holds of the values of the codec
 module _ {V T M : Type 0} (r : Rules V T) (IsValue : V → Type 0) (s : Store V M) where

@@ -9,7 +9,7 @@ use Rattle.hist_journal.specs.declared.seen.KindSeen.{KindSeen}
 use Rattle.hist_journal.specs.declared.seen.KindSeen.TheVariants.{Raise, Edit, Same, Replace, Migrate, Synced}
 use Rattle.hist_journal.specs.Kinds.{is_call}
 use Rattle.shelf.specs.declared.ledger.Ledger.{Ledger}
-use Rattle.shelf.specs.Effects.{with_entries}
+use Rattle.shelf.specs.Entries.{with_entries}
 use Rattle.shelf.specs.NodeStates.{ids}
 
 -- `room` is how many entries the owner of the lock may still add
@@ -21,6 +21,11 @@ pub record LedgerSeen (V T : Type 0) : Type 0 where
   pub weight : ℕ
   pub owner : Option CallId
   pub room : ℕ
+
+-- the owner once this call owns nothing
+abbrev pub freed : CallId → Option CallId → Option CallId
+freed call None = None
+freed call (Some owner) = if is_call call owner then None else Some owner
 
 -- the room of the owner once this call owns nothing
 abbrev pub freed_room : CallId → Option CallId → ℕ → ℕ

@@ -31,9 +31,13 @@ abbrev pub IsOfEdition : {V : Type 0} → ℕ → Loaded V → Type 0
 IsOfEdition edition (Value given) = given.edition ≡ edition
 IsOfEdition edition other = Unit {0}
 
+-- the folder was asked what main is, or was not
+abbrev pub MayAsk : Bool → Tally → Tally → Type 0
+MayAsk told old new = (new ≡ old) ⊎ Tallies told ReadMain false old new
+
 -- a read that met want of memory may have asked the folder or not; any other asked it once
 abbrev pub Asks : {V : Type 0} → Bool → Loaded V → Tally → Tally → Type 0
-Asks told NoMemory old new = (new ≡ old) ⊎ Tallies told ReadMain false old new
+Asks told NoMemory old new = MayAsk told old new
 Asks told other old new = Tallies told ReadMain (is_faulted other) old new
 
 -- no file, or bytes within the limit, decoded

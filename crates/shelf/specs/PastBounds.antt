@@ -2,7 +2,7 @@
 use Rattle.std.specs.Prelude.{◌≡◌, ◌⊎◌, ◌<◌, ◌≤◌, ◌-◌, ◌^◌, ℕ, min, List, length}
 use Rattle.hist_journal.specs.declared.seen.EntrySeen.{EntrySeen}
 use Rattle.shelf.specs.declared.store.Store.{Store}
-use Rattle.shelf.specs.World.{Rules, weight_at}
+use Rattle.shelf.specs.Rules.{Rules, weight_at}
 
 module _ {V T M : Type 0} (r : Rules V T) (s : Store V M) where
   -- the history has these numbers, and one has reached its bound

@@ -9,7 +9,7 @@ use Rattle.shelf.specs.declared.store.Store.{Store}
 use Rattle.shelf.specs.Kept.{MayBeMain}
 use Rattle.shelf.specs.Legal.{value_at}
 use Rattle.shelf.specs.PastBounds.{IsPastLimit}
-use Rattle.shelf.specs.World.{Rules}
+use Rattle.shelf.specs.Rules.{Rules}
 
 module _ {V T M : Type 0} (r : Rules V T) (IsValue : V → Type 0) (s : Store V M) where
   -- the plan is the text of this value, which may be main

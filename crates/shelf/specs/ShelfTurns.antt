@@ -8,9 +8,9 @@ use Rattle.hist_journal.specs.declared.seen.KindSeen.{KindSeen}
 use Rattle.hist_journal.specs.declared.seen.KindSeen.TheVariants.{Fault}
 use Rattle.hist_journal.specs.Quiet.{pending}
 use Rattle.shelf.specs.declared.store.Store.{Store}
-use Rattle.shelf.specs.Effects.{freed, with_entries}
+use Rattle.shelf.specs.Ledger.{freed, freed_room}
+use Rattle.shelf.specs.Entries.{with_entries}
 use Rattle.shelf.specs.FaultCounts.{RaisesCount}
-use Rattle.shelf.specs.Ledger.{freed_room}
 use Rattle.shelf.specs.Legal.{Fits}
 use Rattle.shelf.specs.Meanings.{Meanings}
 use Rattle.shelf.specs.ShelfSeen.{ShelfSeen}

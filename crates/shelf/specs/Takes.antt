@@ -1,12 +1,15 @@
 -- The lock is taken with room for the holding.
-use Rattle.std.specs.Prelude.{◌≡◌, ◌⊎◌, ◌<◌, ◌≤◌, ℕ, Bool, true, false, [], length, Some}
+use Rattle.std.specs.Prelude.{◌≡◌, ◌⊎◌, ◌<◌, ◌≤◌, ℕ, Bool, true, false, [], length, Some, if◌then◌else◌}
 use Rattle.store_traits.specs.declared.ids.CallId.{CallId}
 use Rattle.file_lock.specs.Owner.{IsAnother}
 use Rattle.hist_journal.specs.Nodes.{is_ready}
 use Rattle.shelf.specs.declared.answers.Taken.{Taken}
 use Rattle.shelf.specs.declared.answers.Taken.TheVariants.{Init, Held, Blocked, HistoryFull, NoMemory}
 use Rattle.shelf.specs.Ledger.{LedgerSeen, Enters}
-use Rattle.shelf.specs.LockRow.{most_entries}
+
+-- the most entries that a holding can add: an Inited or a Fault; or a Raise, an Edit and a Synced or a Fault
+abbrev pub most_entries : Bool → ℕ
+most_entries ready = if ready then 3 else 1
 
 module _ {V T : Type 0} (call : CallId) where
   -- neither the entries nor the weight have reached their bound

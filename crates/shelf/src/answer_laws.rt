@@ -11,7 +11,7 @@ ghost use Rattle.shelf.specs.Acknowledged.{IsUpdated};
 ghost use Rattle.shelf.specs.Causes.{HasCause, HasReadCause};
 ghost use Rattle.shelf.specs.Entries.{is_any, is_own};
 ghost use Rattle.shelf.specs.Places.{is_up_to};
-ghost use Rattle.shelf.specs.World.{rules_of};
+ghost use Rattle.shelf.specs.Rules.{rules_of};
 
 use store_traits::{Codec, Transform};
 

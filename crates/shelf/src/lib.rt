@@ -1,7 +1,7 @@
-//! The state that the nodes of a store share. So far it has the definitions that all turns are judged by: what a store
-//! is, which histories of it are lawful, and what a turn of a call may do. It stands on `hist_journal`, and on
-//! `folder_disk`, `scratch_rename` and `file_lock` for what a turn sees.
-//! Its one contract above: a lawful history stays lawful exactly where its next entry fits (`laws`).
+//! The state that the nodes of a store share: its folder, its history and its lock. It stands on `hist_journal`, and on
+//! `folder_disk`, `scratch_rename` and `file_lock` for what a turn touches.
+//! Its one contract above: a turn adds its entries and keeps the history lawful and main what the history makes of it
+//! (`Shelf`); which histories are lawful, and what follows of that, stands in `laws`.
 #![tactic(auto)]
 
 mod answer_laws;
@@ -12,12 +12,9 @@ mod ledger;
 mod node_table;
 mod order_laws;
 mod parts;
-mod progress;
 mod setup;
 mod shelf;
 mod shelf_parts;
-mod step_examples;
-mod step_laws;
 mod store;
 
 pub use answer_laws::{causes_by_the_start, causes_stay, updates_stay};
@@ -34,14 +31,7 @@ pub use order_laws::{
     calls_end, changes_are_raised, counts_rise, numbers_never_fall, updates_end_once,
 };
 pub use parts::{Parts, ValueOf};
-pub use progress::Progress;
 pub use setup::Setup;
 pub use shelf::Shelf;
 pub use shelf_parts::ShelfParts;
-pub use step_examples::{
-    runs_follow_the_table, runs_start_where_a_session_begins, wrong_turns_are_refused,
-};
-pub use step_laws::{
-    ended_calls_own_nothing, turns_only_add, turns_wait_exactly, want_of_memory_changes_nothing,
-};
 pub use store::{DeviceStart, Limits, PlannedDeath, SectionSeen, Store};

@@ -1,7 +1,7 @@
 ghost use Rattle.std.specs.Prelude.{◌<◌, ◌^◌};
 ghost use Rattle.shelf.specs.Kept.{Kept};
 ghost use Rattle.shelf.specs.StoreSeen.{store_with};
-ghost use Rattle.shelf.specs.World.{rules_of};
+ghost use Rattle.shelf.specs.Rules.{rules_of};
 
 use crate::ledger::Ledger;
 use crate::{Parts, ValueOf};

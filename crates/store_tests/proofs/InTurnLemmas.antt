@@ -7,14 +7,14 @@ use Rattle.store_traits.specs.declared.transform.Transform as transform_trait
 use Rattle.store_traits.specs.declared.update_error.UpdateError.{UpdateError}
 use Rattle.file_lock.specs.Owner.{IsAnother}
 use Rattle.folder_disk.specs.declared.folder.Folder as folder_trait
-use Rattle.shelf.specs.declared.progress.Progress.{Progress}
-use Rattle.shelf.specs.declared.progress.Progress.TheVariants.{Moved, Blocked, Ended}
-use Rattle.shelf.specs.Calls.{At, Call, Gone, is_gone}
+use Rattle.step_table.specs.declared.progress.Progress.{Progress}
+use Rattle.step_table.specs.declared.progress.Progress.TheVariants.{Moved, Blocked, Ended}
+use Rattle.step_table.specs.Calls.{At, Call, Gone, is_gone}
 use Rattle.shelf.specs.ShelfSeen.{ShelfSeen}
-use Rattle.shelf.specs.Turn.{begin, dies_now, has_died_by}
-use Rattle.shelf.specs.World.{Turned}
+use Rattle.step_table.specs.Turn.{begin, dies_now, has_died_by}
+use Rattle.step_table.specs.World.{Turned}
 use Rattle.shelf.proofs.Bools.{never}
-use Rattle.shelf.proofs.StepLemmas.{turn_waits}
+use Rattle.step_table.proofs.StepLemmas.{turn_waits}
 use Rattle.node_core.specs.Ready.{rules_seen}
 use Rattle.node_core.specs.Step.{StaysIfBlocked, StepsFall, TurnFrom}
 use Rattle.node_core.specs.StepsLeft.{steps_left}

@@ -9,14 +9,13 @@ use Rattle.hist_journal.specs.Quiet.{pending}
 use Rattle.shelf.specs.declared.store.Store.{Store}
 use Rattle.shelf.specs.Meanings.{Meanings}
 use Rattle.shelf.specs.ShelfTurns.{FaultFits, FitInTurn}
-use Rattle.shelf.proofs.GoingOn.{GoesOn, GoesOn-empty, GoesOn-push, raise_fits, fault_fits}
-use Rattle.shelf.proofs.StepLemmas.{itself}
+use Rattle.shelf.proofs.GoingOn.{GoesOn, GoesOn-empty, GoesOn-push, raise_fits, fault_fits, edit_fits, same_fits, synced_fits, late_fault_fits, raise_opens}
+use Rattle.shelf.proofs.SameCalls.{itself}
 use Rattle.std.proofs.lemmas.Bool.{eq-eqb}
-use Rattle.shelf.proofs.GoingOn.{edit_fits, same_fits, synced_fits, late_fault_fits, raise_opens}
 use Rattle.shelf.specs.Changes.{KeepsValue}
 use Rattle.shelf.specs.Legal.{value_at}
 use Rattle.shelf.specs.Plans.{Writes, WritesChange}
-use Rattle.shelf.specs.World.{Rules, rules_of}
+use Rattle.shelf.specs.Rules.{Rules, rules_of}
 use Rattle.scratch_rename.specs.Filling.{Filling, filled_more}
 use Rattle.store_traits.specs.declared.applied.Applied.{Applied}
 use Rattle.store_traits.specs.declared.applied.Applied.TheVariants.{Changed}

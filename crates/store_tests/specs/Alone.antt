@@ -8,7 +8,7 @@ use Rattle.folder_disk.specs.declared.folder.Folder as folder_trait
 use Rattle.hist_journal.specs.declared.seen.EntrySeen.{EntrySeen}
 use Rattle.hist_journal.specs.declared.seen.KindSeen.{KindSeen}
 use Rattle.shelf.specs.CallOrder.{is_later}
-use Rattle.shelf.specs.Calls.{At}
+use Rattle.step_table.specs.Calls.{At}
 use Rattle.shelf.specs.Meanwhile.{NoneOf}
 use Rattle.shelf.specs.ShelfSeen.{ShelfSeen}
 use Rattle.node_core.specs.declared.origin.Origin.{Origin}

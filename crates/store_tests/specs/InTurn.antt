@@ -4,7 +4,7 @@ use Rattle.store_traits.specs.declared.codec.Codec as codec_trait
 use Rattle.store_traits.specs.declared.ids.CallId.{CallId}
 use Rattle.store_traits.specs.declared.transform.Transform as transform_trait
 use Rattle.folder_disk.specs.declared.folder.Folder as folder_trait
-use Rattle.shelf.specs.Calls.{At, is_gone}
+use Rattle.step_table.specs.Calls.{At, is_gone}
 use Rattle.shelf.specs.ShelfSeen.{ShelfSeen}
 use Rattle.node_core.specs.StepsLeft.{steps_left}
 use Rattle.node_core.specs.Views.{state_seen}

@@ -14,7 +14,7 @@ use Rattle.shelf.specs.declared.store.Store.{Store}
 use Rattle.shelf.specs.Plans.{Writes}
 use Rattle.shelf.specs.ShelfSeen.{ShelfSeen}
 use Rattle.shelf.specs.ShelfTurns.{Owns}
-use Rattle.shelf.specs.World.{Rules}
+use Rattle.shelf.specs.Rules.{Rules}
 
 module _ {V T : Type 0} (call : CallId) where
   abbrev pub entry : KindSeen V T → EntrySeen V T

@@ -2,7 +2,7 @@
 ghost use Rattle.std.specs.Prelude.{◌≡◌, ◌<◌, None, false, true};
 ghost use Rattle.hist_journal.specs.Folds.{raises_of};
 ghost use Rattle.shelf.specs.AddsNode.{is_among};
-ghost use Rattle.shelf.specs.Calls.{is_gone};
+ghost use Rattle.step_table.specs.Calls.{is_gone};
 ghost use Rattle.shelf.specs.ShelfSeen.{shelf_seen};
 ghost use Rattle.node_core.specs.Views.{state_seen};
 ghost use Rattle.store_tests.specs.Alone.{IsAlone, IsNew, TellsOf};

@@ -1,5 +1,5 @@
 ghost use Rattle.std.specs.Prelude.{◌≡◌, None, false};
-ghost use Rattle.shelf.specs.Calls.{First};
+ghost use Rattle.step_table.specs.Calls.{First};
 ghost use Rattle.node_core.specs.Views.{state_seen};
 
 use node_core::UpdateCall;

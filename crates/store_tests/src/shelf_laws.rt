@@ -1,10 +1,12 @@
-//! The laws of `shelf`, called at the types of its small store, and its worked histories and runs.
+//! The laws of `shelf`, called at the types of its small store, its worked histories, and the worked runs of `step_table`.
 use shelf::{
     ExampleEdit, calls_end, changes_are_raised, counts_rise, histories_are_lawful,
     histories_are_unlawful, histories_come_to, images_go_on, images_hold_what_is_synced,
     longer_is_legal, numbers_never_fall, open_is_pending, prefix_is_legal, quiet_is_fresh,
-    runs_follow_the_table, runs_start_where_a_session_begins, stores_have_their_base,
-    updates_end_once, wrong_turns_are_refused,
+    stores_have_their_base, updates_end_once,
+};
+use step_table::{
+    runs_follow_the_table, runs_start_where_a_session_begins, wrong_turns_are_refused,
 };
 
 #[test]

@@ -9,7 +9,7 @@ ghost use Rattle.hist_journal.specs.Folds.{raises_of, value_of};
 ghost use Rattle.shelf.specs.AddsNode.{is_among};
 ghost use Rattle.shelf.specs.Changes.{KeepsValue};
 ghost use Rattle.shelf.specs.ShelfSeen.{shelf_seen};
-ghost use Rattle.shelf.specs.World.{rules_of};
+ghost use Rattle.shelf.specs.Rules.{rules_of};
 ghost use Rattle.store_tests.specs.SingleUpdate.{Rests, Holds, IsRaised, ChangesTo, Makes, initialised, written, kept};
 
 use folder_disk::Folder;

@@ -2,7 +2,7 @@ ghost use Rattle.std.specs.Prelude.{◌≡◌, true, false};
 ghost use Rattle.hist_journal.specs.Folds.{raises_of};
 ghost use Rattle.hist_journal.specs.Nodes.{is_dead};
 ghost use Rattle.shelf.specs.AddsNode.{is_among};
-ghost use Rattle.shelf.specs.Calls as at;
+ghost use Rattle.step_table.specs.Calls as at;
 ghost use Rattle.shelf.specs.ShelfSeen.{shelf_seen};
 ghost use Rattle.node_core.specs.Initialising.{IsInitialising};
 ghost use Rattle.node_core.specs.Steps.{InitRow, is_finished, is_last};

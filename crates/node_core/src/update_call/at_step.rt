@@ -1,5 +1,5 @@
 ghost use Rattle.std.specs.Prelude.{◌≡◌, true, if◌then◌else◌};
-ghost use Rattle.shelf.specs.Calls.{step_at};
+ghost use Rattle.step_table.specs.Calls.{step_at};
 ghost use Rattle.node_core.specs.Views.{init_seen, state_seen, write_seen};
 
 use super::{State, UpdateCall};
@@ -14,8 +14,15 @@ impl<P: Parts> UpdateCall<P> {
     pub fn at_step(&self) -> Step
         ensures { result ≡ step_at self.now.initialised (state_seen self.now.state) }
     {
+        self.step_where(self.initialised)
+    }
+
+    /// The next step, where the node is initialised or is not.
+    pub(super) fn step_where(&self, ready: bool) -> Step
+        ensures { result ≡ step_at ready (state_seen self.now.state) }
+    {
         match &self.state {
-            State::First { edit: _ } => self.first_step(),
+            State::First { edit: _ } => first_step(ready),
             State::Initialise { edit: _, init } => init.at_step(),
             State::Read { edit: _ } => Step::U2,
             State::Write { write } => write.at_step(),
@@ -23,12 +30,12 @@ impl<P: Parts> UpdateCall<P> {
             State::Gone => Step::I1,
         }
     }
+}
 
-    fn first_step(&self) -> Step
-        ensures { result ≡ (if self.now.initialised then Step.U1 else Step.I1) }
-    {
-        if self.initialised { Step::U1 } else { Step::I1 }
-    }
+fn first_step(ready: bool) -> Step
+    ensures { result ≡ (if ready then Step.U1 else Step.I1) }
+{
+    if ready { Step::U1 } else { Step::I1 }
 }
 
 impl<P: Parts> InitCall<P> {

@@ -4,19 +4,20 @@ ghost use Rattle.hist_journal.specs.Nodes.{is_ready};
 ghost use Rattle.hist_journal.specs.Quiet.{pending};
 ghost use Rattle.store_traits.specs.declared.ids.CallId.{CallId};
 ghost use Rattle.shelf.specs.AddsNode.{is_among};
-ghost use Rattle.shelf.specs.Calls.{First, is_first, is_gone};
+ghost use Rattle.step_table.specs.Calls.{First, is_first, is_gone};
 ghost use Rattle.shelf.specs.Kept.{KeptMain};
 ghost use Rattle.shelf.specs.ShelfSeen.{shelf_seen};
 ghost use Rattle.node_core.specs.Own.{IsFor};
 ghost use Rattle.node_core.specs.Phases.{is_finishing};
 ghost use Rattle.node_core.specs.Ready.{Ready, rules_seen};
-ghost use Rattle.node_core.specs.Step.{MayStep, ShowsAnswer, StaysIfBlocked, StepsFall, TurnFrom};
+ghost use Rattle.node_core.specs.Step.{MayStep, ShowsAnswer, SparesRoom, StaysIfBlocked, StepsFall, TurnFrom};
 ghost use Rattle.node_core.specs.Views.{state_seen};
 
 use super::{State, UpdateCall};
 use crate::origin::Origin;
-use shelf::{Parts, Progress, Shelf};
+use shelf::{Parts, Shelf};
 use std::alloc::Global;
+use step_table::Progress;
 use store_traits::{CallId, UpdateError, Word};
 
 impl<P: Parts> UpdateCall<P> {
@@ -57,16 +58,19 @@ impl<P: Parts> UpdateCall<P> {
         ensures store { (shelf_seen shelf.new).store ≡ (shelf_seen shelf.old).store }
         ensures codec { shelf.new.codec ≡ shelf.old.codec }
         ensures waits { StaysIfBlocked result (shelf_seen shelf.old) (shelf_seen shelf.new) }
+        // So stays what is kept for another call that owns the lock.
+        ensures spares { SparesRoom P.C.Codec P.T.Transform P.F.Folder self.old.origin (shelf_seen shelf.old) (shelf_seen shelf.new) }
         // The history stays lawful, and main what it makes of it; no raise is open but that of the lock's owner.
         ensures kept { IsTrue P.F.told → ∥ KeptMain (rules_seen P.C.Codec P.T.Transform P.F.Folder (shelf_seen shelf.new)) (P.C.is_value shelf.new.codec) (shelf_seen shelf.new).store (P.F.contents shelf.new.folder) (shelf_seen shelf.new).list ∥₁ }
         ensures quiet { (call : CallId) → pending (shelf_seen shelf.new).list ≡ Some call → (shelf_seen shelf.new).owner ≡ Some call }
         // What the call is answered is in the history.
-        ensures shown { IsTrue P.F.told → (edit : P.T) → IsFor self.old.origin.call edit (state_seen self.old.state) (shelf_seen shelf.old).list
-            → ShowsAnswer (rules_seen P.C.Codec P.T.Transform P.F.Folder (shelf_seen shelf.old)) (shelf_seen shelf.old).store (edition_of (shelf_seen shelf.old).list) self.old.origin.call edit (shelf_seen shelf.new).list result }
+        ensures shown { (edit : P.T) → IsFor self.old.origin.call edit (state_seen self.old.state) (shelf_seen shelf.old).list
+            → ShowsAnswer P.F.told (rules_seen P.C.Codec P.T.Transform P.F.Folder (shelf_seen shelf.old)) (shelf_seen shelf.old).store (edition_of (shelf_seen shelf.old).list) self.old.origin.call edit (shelf_seen shelf.new).list result }
         ensures number { W.number word.new ≡ raises_of (shelf_seen shelf.new).list }
         ensures made { W.made word.new ≡ W.made word.old }
     {
-        if let Some(at) = shelf.begin(self.origin.call, self.at_step(), self.origin.since) {
+        // A first turn is told as `U1`: the shelf knows whether the node is initialised by then, the call does not.
+        if let Some(at) = shelf.begin(self.origin.call, self.step_where(true), self.origin.since) {
             self.state = State::Gone;
             return Progress::Ended(Err(UpdateError::Died { at }));
         }

@@ -2,8 +2,8 @@ ghost use Rattle.std.specs.Prelude.{◌≡◌, ◌||◌, true, false};
 ghost use Rattle.hist_journal.specs.Folds.{raises_of};
 ghost use Rattle.hist_journal.specs.Nodes.{is_dead};
 ghost use Rattle.shelf.specs.AddsNode.{is_among};
-ghost use Rattle.shelf.specs.Calls as at;
-ghost use Rattle.shelf.specs.Calls.{is_gone};
+ghost use Rattle.step_table.specs.Calls as at;
+ghost use Rattle.step_table.specs.Calls.{is_gone};
 ghost use Rattle.shelf.specs.ShelfSeen.{shelf_seen};
 ghost use Rattle.node_core.specs.Phases.{is_finishing};
 ghost use Rattle.node_core.specs.Ready.{Ready};
@@ -19,9 +19,10 @@ use crate::read_errors::as_update_error;
 use crate::read_held::read_held;
 use crate::write_call::{WriteCall, Written};
 use hist_journal::Kind;
-use shelf::{Parts, Progress, Shelf, Taken, Want};
+use shelf::{Parts, Shelf, Taken, Want};
 use std::alloc::Global;
 use std::mem;
+use step_table::Progress;
 use store_traits::{UpdateError, Word};
 
 impl<P: Parts> UpdateCall<P> {

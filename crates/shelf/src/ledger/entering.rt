@@ -3,8 +3,7 @@ ghost use Rattle.hist_journal.specs.declared.device.Device.TheVariants.{Folder};
 ghost use Rattle.hist_journal.specs.declared.seen.KindSeen.TheVariants.{Fault};
 ghost use Rattle.hist_journal.specs.Kinds.{is_change};
 ghost use Rattle.hist_journal.specs.View.{kind_seen};
-ghost use Rattle.shelf.specs.Effects.{freed};
-ghost use Rattle.shelf.specs.Ledger.{ledger_seen, freed_room, is_inner, Enters};
+ghost use Rattle.shelf.specs.Ledger.{freed, ledger_seen, freed_room, is_inner, Enters};
 
 use super::Ledger;
 use hist_journal::{Device, Entry, Kind};

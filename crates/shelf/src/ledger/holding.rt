@@ -2,11 +2,9 @@ ghost use Rattle.std.specs.Prelude.{◌≡◌, ◌≢◌, ◌+◌, ◌-◌, ◌�
 ghost use Rattle.file_lock.specs.Owner.{IsAnother};
 ghost use Rattle.hist_journal.specs.declared.seen.KindSeen.TheVariants.{Inited};
 ghost use Rattle.hist_journal.specs.Quiet.{pending};
-ghost use Rattle.shelf.specs.Effects.{freed};
-ghost use Rattle.shelf.specs.Ledger.{ledger_seen, freed_room, Enters};
+ghost use Rattle.shelf.specs.Ledger.{freed, ledger_seen, freed_room, Enters};
 ghost use Rattle.shelf.specs.NodeStates.{has_node};
-ghost use Rattle.shelf.specs.LockRow.{most_entries};
-ghost use Rattle.shelf.specs.Takes.{TakeRow};
+ghost use Rattle.shelf.specs.Takes.{most_entries, TakeRow};
 
 use super::Ledger;
 use crate::{Taken, Want};

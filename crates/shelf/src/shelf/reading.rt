@@ -5,7 +5,7 @@ ghost use Rattle.shelf.specs.Loading.{base_of, Asks, IsOfEdition, DecodesAs, Rea
 ghost use Rattle.shelf.specs.Plans.{PlanRow, HasPlanRoom};
 ghost use Rattle.shelf.specs.ShelfSeen.{shelf_seen};
 ghost use Rattle.shelf.specs.ShelfTurns.{Owns, MayFault};
-ghost use Rattle.shelf.specs.World.{rules_of};
+ghost use Rattle.shelf.specs.Rules.{rules_of};
 
 use super::Shelf;
 use crate::{Loaded, Parts, PlanMade, ValueOf};

@@ -11,7 +11,7 @@ ghost use Rattle.scratch_rename.specs.Filling.{next_piece, filled_more};
 ghost use Rattle.shelf.specs.Plans.{WritesChange};
 ghost use Rattle.shelf.specs.ShelfSeen.{shelf_seen};
 ghost use Rattle.shelf.specs.ShelfTurns.{Owns, May, MayFault, Adds, Faults};
-ghost use Rattle.shelf.specs.World.{rules_of};
+ghost use Rattle.shelf.specs.Rules.{rules_of};
 
 use super::Shelf;
 use super::weighing::weight_of;

@@ -1,4 +1,4 @@
-use Rattle.shelf.specs.World.{rules_of}
+use Rattle.shelf.specs.Rules.{rules_of}
 use Rattle.shelf.proofs.StoreLemmas.{cause_alike, read_cause_alike}
 use Rattle.shelf.proofs.answer_laws.causes_by_the_start.Goals as goal
 

@@ -1,4 +1,4 @@
-use Rattle.shelf.specs.World.{rules_of}
+use Rattle.shelf.specs.Rules.{rules_of}
 use Rattle.shelf.proofs.CauseLemmas.{HasCause-more, HasReadCause-more}
 use Rattle.shelf.proofs.answer_laws.causes_stay.Goals as goal
 

@@ -1,6 +1,6 @@
 use Rattle.std.proofs.Common.{◌≡◌, false}
 use Rattle.hist_journal.specs.Folds.{raises_of}
-use Rattle.shelf.specs.Calls.{is_gone}
+use Rattle.step_table.specs.Calls.{is_gone}
 use Rattle.shelf.specs.ShelfSeen.{shelf_seen}
 use Rattle.node_core.specs.StepsLeft.{steps_left}
 use Rattle.node_core.specs.Views.{state_seen}

@@ -1,7 +1,7 @@
 use Rattle.node_core.proofs.EarlyLemmas.{early_goes_on}
 use Rattle.node_core.proofs.ReadLemmas.{fails_version, first_fails}
 use Rattle.shelf.proofs.GoingOn.{fault_fits}
-use Rattle.shelf.specs.Calls.{Gone}
+use Rattle.step_table.specs.Calls.{Gone}
 use Rattle.shelf.specs.ShelfSeen.{shelf_seen}
 use Rattle.node_core.proofs.init_call.stepping.read_first.Goals as goal
 

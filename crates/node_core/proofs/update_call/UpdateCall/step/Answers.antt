@@ -20,7 +20,7 @@ entries_are g c = c.len.ensures ∙ (ap (λ (journal : JournalSeen g.row.P-C-Val
 pub begin-requires : goal.begin-requires
 begin-requires g c =
     let ready = ready_now g.P.C.Codec g.P.T.Transform g.P.F.Folder c.args.self.now.origin _ _ _ c.requires.may (has_not_died _ _ _ c.args.shelf.now.ledger.no_deaths) in
-    record { step = rw (c.at_step.ensures, writes_either _ _) ready.knows.raised }
+    record { step = rw (c.step_where.ensures, writes_either _ _) ready.knows.raised }
 
 pub work-requires-clause-ready : goal.work-requires-clause-ready
 work-requires-clause-ready g c =
@@ -44,6 +44,7 @@ gives g c =
     (c.work.ensures.codec ∙ ap (λ (s : ShelfSeen _ _ _ _). s.codec) c.begin.ensures.same)
     (c.work.ensures.store ∙ ap (λ (s : ShelfSeen _ _ _ _). s.store) c.begin.ensures.same)
     c.work.ensures.equips
+    (subst (λ (s : ShelfSeen _ _ _ _). StaysIfBlocked c.work.result s (shelf_seen c.work.new.shelf)) c.begin.ensures.same c.work.ensures.waits)
     c.work.new.self.origin
     (c.work.ensures.origin ∙ origin)
 
@@ -64,6 +65,9 @@ returns-clause-kept g c = λ told. ∥∥₁_map c.work.new.shelf.kept (λ kept.
 
 pub returns-clause-shown : goal.returns-clause-shown
 returns-clause-shown g c = (gives g c).shown
+
+pub returns-clause-spares : goal.returns-clause-spares
+returns-clause-spares g c = (gives g c).spares
 
 pub returns-clause-store : goal.returns-clause-store
 returns-clause-store g c = c.work.ensures.store ∙ ap (λ (s : ShelfSeen _ _ _ _). s.store) c.begin.ensures.same

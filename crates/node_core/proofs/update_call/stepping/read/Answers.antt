@@ -1,6 +1,6 @@
 use Rattle.std.proofs.Common.{ap, refl}
 use Rattle.shelf.proofs.GoingOn.{fault_fits}
-use Rattle.shelf.specs.Calls.{Gone, Reading}
+use Rattle.step_table.specs.Calls.{Gone, Reading}
 use Rattle.shelf.specs.ShelfSeen.{shelf_seen}
 use Rattle.node_core.specs.Steps.{as_update}
 use Rattle.node_core.specs.Views.{state_seen}

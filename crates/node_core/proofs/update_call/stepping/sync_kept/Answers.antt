@@ -1,13 +1,13 @@
 use Rattle.std.proofs.Common.{◌≡◌, Some, refl}
 use Rattle.hist_journal.specs.Quiet.{pending}
-use Rattle.shelf.specs.Effects.{Keeps}
-use Rattle.shelf.specs.LastRows.{SyncsFolder}
 use Rattle.shelf.specs.ShelfSeen.{shelf_seen}
 use Rattle.shelf.proofs.Bools.{never}
+use Rattle.shelf.proofs.GoingOn.{fault_fits}
+use Rattle.step_table.specs.Effects.{Keeps}
+use Rattle.step_table.specs.LastRows.{SyncsFolder}
 use Rattle.node_core.proofs.EarlyLemmas.{early_goes_on}
 use Rattle.node_core.proofs.EndLemmas.{kept_fits, not_raised_twice}
 use Rattle.node_core.proofs.RowLemmas.{adds_then_frees, fails_row, fault_raises, freed_raises, last_row}
-use Rattle.shelf.proofs.GoingOn.{fault_fits}
 use Rattle.node_core.proofs.update_call.stepping.sync_kept.Goals as goal
 
 pub sync_folder-requires-clause-lawful : goal.sync_folder-requires-clause-lawful
@@ -29,7 +29,7 @@ returns-in-Ok-clause-row g c =
     let ok = c.in-Ok.ensures in
     let owns = (c.requires.ready.knows.holds refl).owns in
     let frees = adds_then_frees _ _ (shelf_seen c.args.shelf.now) (shelf_seen c.sync_folder.new.self) (shelf_seen c.free.new.self) owns ok.ok c.free.ensures.turn in
-    (ok.edition, last_row g.P.F.Folder c.args.origin _ _ _ _ SyncsFolder refl frees (rw c.free.ensures.folder ok.synced) (rw c.free.ensures.folder ok.tally.counts.later))
+    (ok.edition, last_row g.P.F.Folder c.args.origin _ _ _ _ _ SyncsFolder refl frees (rw c.free.ensures.folder ok.synced) (rw c.free.ensures.folder ok.tally))
 
 pub returns-in-Ok-clause-raises : goal.returns-in-Ok-clause-raises
 returns-in-Ok-clause-raises g c =
@@ -39,7 +39,7 @@ returns-in-Ok-clause-raises g c =
 pub returns-in-Err-clause-row : goal.returns-in-Err-clause-row
 returns-in-Err-clause-row g c =
     let e = c.in-Err.ensures in
-    fails_row g.P.F.Folder c.args.origin _ _ _ Keeps _ e.err e.failed e.tally.counts.cause
+    fails_row g.P.F.Folder c.args.origin _ _ _ _ Keeps _ e.err e.failed e.tally
 
 pub returns-in-Err-clause-raises : goal.returns-in-Err-clause-raises
 returns-in-Err-clause-raises g c = fault_raises _ _ _ _ _ c.in-Err.ensures.err

@@ -3,8 +3,8 @@ use Rattle.store_traits.specs.declared.update_error.UpdateError.TheVariants.{NoM
 use Rattle.folder_disk.specs.contracts.mem_folder.MemFolderFolder.TheImpl as folder
 use Rattle.prefs_edit.specs.contracts.edit.EditTransform.TheImpl as edit
 use Rattle.prefs_proto.specs.contracts.prefs_codec.PrefsCodecCodec.TheImpl as codec
-use Rattle.shelf.specs.declared.progress.Progress.TheVariants.{Ended}
 use Rattle.shelf.specs.ShelfSeen.{shelf_seen}
+use Rattle.step_table.specs.declared.progress.Progress.TheVariants.{Ended}
 use Rattle.node_core.specs.Step.{StaysIfBlocked, TurnFrom}
 use Rattle.node_core.specs.Views.{state_seen, turned}
 use Rattle.replay_run.specs.ClientKeeps.{KeepsCall, KeepsRunning}
@@ -24,7 +24,7 @@ returns-in-Moved c =
     let t = turned folder.ghosts call.origin (state_seen call.state) (shelf_seen old) after.origin (state_seen after.state) (shelf_seen new) in
     let kept : KeepsCall (rules_in old) (store_in old) (client_in old client) (world_in old) (call_in old call) =
     subst (λ o. KeepsRunning (rules_in old) (store_in old) (client_in old client) (world_in old) (running_seen folder.ghosts (shelf_seen old) o)) c.in-Some.is c.requires.keeps in
-    let unfailed = none_failed (store_in new).folder.most (world_in new).faults c.faults-faults.result (ap (λ s. s.folder.most) step.store ∙ c.requires.spare) c.faults-faults.ensures.count c.faults-faults.ensures.within in
+    let unfailed = none_failed (store_in new).folder.most (world_in new).tally.count c.faults-faults.result (ap (λ s. s.folder.most) step.store ∙ c.requires.spare) c.faults-faults.ensures.count c.faults-faults.ensures.within in
     record {
       turns =
           takes old new client call after c.in-Some.is (record client { running = Some after }) gave step.turn (not_ended gave (Err NoMemory) c.in-Moved.is) (unfailed ∙ sym c.requires.unfailed)
@@ -48,7 +48,7 @@ returns-in-Ended-clause-turns c =
     let answer = c.in-Ended.answer in
     let kept : KeepsCall (rules_in old) (store_in old) (client_in old client) (world_in old) (call_in old call) =
     subst (λ o. KeepsRunning (rules_in old) (store_in old) (client_in old client) (world_in old) (running_seen folder.ghosts (shelf_seen old) o)) c.in-Some.is c.requires.keeps in
-    let unfailed = none_failed (store_in new).folder.most (world_in new).faults c.faults-faults.result (ap (λ s. s.folder.most) step.store ∙ c.requires.spare) c.faults-faults.ensures.count c.faults-faults.ensures.within in
+    let unfailed = none_failed (store_in new).folder.most (world_in new).tally.count c.faults-faults.result (ap (λ s. s.folder.most) step.store ∙ c.requires.spare) c.faults-faults.ensures.count c.faults-faults.ensures.within in
     let turn : TurnFrom codec.ghosts edit.ghosts folder.ghosts call.origin (state_seen call.state) (shelf_seen old) (Ended answer) after.origin (state_seen after.state) (shelf_seen new) =
     subst (λ g. TurnFrom codec.ghosts edit.ghosts folder.ghosts call.origin (state_seen call.state) (shelf_seen old) g after.origin (state_seen after.state) (shelf_seen new)) c.in-Ended.is step.turn in
     both_ok c.end.result c.end.ensures.ended c.end.ensures.memory

@@ -1,4 +1,4 @@
-use Rattle.shelf.specs.World.{rules_of}
+use Rattle.shelf.specs.Rules.{rules_of}
 use Rattle.shelf.proofs.EndingLemmas.{synced_plain, synced_weighs}
 use Rattle.shelf.proofs.KeptLemmas.{kept_kinds, kept_fault, synced_stays, equal_stays}
 use Rattle.shelf.proofs.shelf.Shelf.sync_folder.Goals as goal

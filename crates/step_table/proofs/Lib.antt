@@ -1,0 +1,4 @@
+pub mod GrowthLemmas
+pub mod Played
+pub mod StepLemmas
+pub mod Tallied

@@ -1,0 +1,44 @@
+-- What a call of a told folder makes of the tally.
+use Rattle.std.proofs.Common.{◌≡◌, ◌∙◌, inl, ℕ, ◌-◌, ◌^◌, nat_lt, Bool, true, false, ◌&&◌, not, Option, refl, sym, ap, arith}
+use Rattle.std.proofs.lemmas.Bool.{and_parts, not-true}
+use Rattle.std.proofs.lemmas.Bool.Decides.{nat_tests}
+use Rattle.folder_disk.specs.declared.call.FolderCall.{FolderCall}
+use Rattle.folder_disk.specs.Due.{Due, one_more, taken_in}
+use Rattle.folder_disk.specs.Due as plan
+use Rattle.folder_disk.specs.Tally.{Tallies, Tally}
+
+-- a tally once such a call went well, or failed
+abbrev pub went_well : FolderCall → Tally → Tally
+went_well asked tally = record tally { due = taken_in asked tally.due }
+
+abbrev pub has_failed : FolderCall → Tally → Tally
+has_failed asked tally = record tally { count = one_more tally.count; due = taken_in asked tally.due }
+
+pub well_so : (told : Bool) (asked : FolderCall) (tally : Tally) → (not (plan.fails asked tally.due) && nat_lt tally.count (2 ^ 64 - 1)) ≡ true → Tallies told asked false tally (went_well asked tally)
+well_so told asked tally is =
+    let parts = and_parts (not (plan.fails asked tally.due)) (nat_lt tally.count (2 ^ 64 - 1)) is in
+    let below : nat_lt tally.count (2 ^ 64 - 1) ≡ true = parts.1 in
+    record {
+      counts = record { later = omega arith; cause = tt };
+      fits = grind (arith, nat_tests, below);
+      most = refl;
+      due = λ is_told. record { failed = sym (not-true (plan.fails asked tally.due) parts.0); count = refl; due = refl };
+    }
+
+pub failed_so : (told : Bool) (asked : FolderCall) (tally : Tally) → (plan.fails asked tally.due && nat_lt tally.count (2 ^ 64 - 1)) ≡ true → Tallies told asked true tally (has_failed asked tally)
+failed_so told asked tally is =
+    let parts = and_parts (plan.fails asked tally.due) (nat_lt tally.count (2 ^ 64 - 1)) is in
+    let below : nat_lt tally.count (2 ^ 64 - 1) ≡ true = parts.1 in
+    record {
+      counts = record { later = grind (arith, nat_tests, below); cause = inl (grind (arith, nat_tests, below)) };
+      fits = omega arith;
+      most = refl;
+      due = λ is_told. record { failed = sym parts.0; count = refl; due = refl };
+    }
+
+-- of a folder that tells what it does, the tally is one once a call went well
+pub well_is : (asked : FolderCall) (old new : Tally) → Tallies true asked false old new → new ≡ went_well asked old
+well_is asked old new it =
+    let due = it.due refl in
+    ap (λ (x : ℕ). record new { count = x }) due.count
+    ∙ (ap (λ (x : Option ℕ). record new { count = old.count; most = x }) it.most ∙ ap (λ (x : Due). record old { due = x }) due.due)
