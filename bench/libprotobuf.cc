@@ -1,5 +1,5 @@
 // The same work by libprotobuf's C++: reading a file into an arena, and writing it with its entries in order.
-// `bench/run` builds it where it can. WORK FILE TIMES, as ds_bench has them, and as there the nanoseconds in all are printed.
+// `bench/run` builds it where it can. WORK FILE TIMES, as ds_bench has them, and the same line printed.
 #include <chrono>
 #include <cstdio>
 #include <fstream>
@@ -40,6 +40,6 @@ int main(int, char **words) {
     is_well &= work == "decode" ? decode(bytes) : encode(map, out);
   }
   const std::chrono::nanoseconds spent = std::chrono::steady_clock::now() - start;
-  std::printf("%lld\n", static_cast<long long>(spent.count()));
+  std::printf("%s %zu %d %lld\n", work.c_str(), bytes.size(), times, static_cast<long long>(spent.count()));
   return is_well ? 0 : 1;
 }

@@ -1,22 +1,25 @@
 //! What turns in a room cost, and loads of its version, on so many threads.
-ghost use Rattle.std.specs.Prelude.{◌≡◌};
+ghost use Rattle.std.specs.Prelude.{◌≡◌, ◌<◌, ◌≤◌, [], IsTrue, length};
+ghost use Rattle.hist_journal.specs.Journal.{KeepsHistory};
 ghost use Rattle.hist_journal.specs.ListedJournal.{journal_meaning};
-ghost use Rattle.version_room.specs.Known.{first_known};
+ghost use Rattle.version_room.specs.Known.{HasClient, HasClients, first_known};
 ghost use Rattle.version_room.specs.Seats.{IsOf, known};
 
-use hist_journal::{Base, Bounds, Journal};
+use anyhow::{Result, bail};
+use hist_journal::{Base, Bounds, Entry, Journal, Kind};
 use std::alloc::Global;
 use std::hint::black_box;
 use std::sync::Wait;
 use std::thread::{Threads, map_vec};
+use store_traits::{CallId, ClientId, NodeId};
 use version_room::{Pass, Room};
 
 type Log = Journal<u64, u64>;
 
 /// What each caller does again and again.
-#[derive(Clone, Copy)]
+#[derive(Clone, Copy, Debug)]
 pub enum RoomWork {
-    /// Enters, takes the state, and leaves it as it was.
+    /// Enters, adds an entry, and leaves.
     Turn,
     /// Loads the version.
     Load,
@@ -32,76 +35,120 @@ impl RoomWork {
     }
 }
 
+/// A caller with a client number of its own.
 #[derive(Drop)]
 struct Caller<'r> {
     room: &'r Room<Log>,
     pass: Pass<Log>,
+    client: u32,
     ghost of: { IsOf journal_meaning room.now pass.seat },
+    ghost own: { HasClient (known pass.seat) client },
 }
 
 impl<'r> Caller<'r> {
-    fn works<R: Wait>(mut self, rt: &R, work: RoomWork, times: u32) {
+    /// Does the work so often, and answers whether all went well.
+    fn works<R: Wait>(mut self, rt: &R, work: RoomWork, times: u32) -> bool {
         for _ in 0..times {
-            match work {
-                RoomWork::Turn => turn(rt, self.room, &mut self.pass),
-                RoomWork::Load => load(self.room, &mut self.pass),
+            if !self.works_once(rt, work) {
+                return false;
+            }
+        }
+        true
+    }
+
+    fn works_once<R: Wait>(&mut self, rt: &R, work: RoomWork) -> bool {
+        match work {
+            RoomWork::Turn => push_in_turn(rt, self.room, &mut self.pass, self.client),
+            RoomWork::Load => {
+                let _ = black_box(self.room.load_version(&mut self.pass));
+                true
             }
         }
     }
 }
 
-fn turn<R: Wait>(rt: &R, room: &Room<Log>, pass: &mut Pass<Log>)
-    requires { IsOf journal_meaning room.now pass.old.seat }
-    ensures { IsOf journal_meaning room.now pass.new.seat }
+/// Whether one more entry needs no memory.
+fn has_room(log: &mut Log) -> bool
+    ensures same { KeepsHistory log.old log.new }
+    ensures room { IsTrue result → 1 ≤ log.new.room }
 {
+    log.reserve_past(1).is_ok()
+}
+
+/// Adds an entry in a turn. Not where there is no memory.
+fn push_in_turn<R: Wait>(rt: &R, room: &Room<Log>, pass: &mut Pass<Log>, client: u32) -> bool
+    requires room { IsOf journal_meaning room.now pass.old.seat }
+    requires client { HasClient (known pass.old.seat) client }
+    ensures room { IsOf journal_meaning room.now pass.new.seat }
+    ensures clients { HasClients (known pass.new.seat) (known pass.old.seat).low (known pass.old.seat).high }
+{
+    let who = CallId {
+        node: NodeId(1),
+        client: ClientId(client),
+        number: 1,
+    };
     let mut turn = room.enter(rt, pass);
-    let log = turn.take();
+    let mut log = turn.take();
+    let is_open = has_room(&mut log);
+    if !is_open {
+        turn.leave(log);
+        return false;
+    }
+    let entry = Entry {
+        who,
+        kind: Kind::Synced,
+    };
+    log.push(entry, 0);
     turn.leave(log);
+    true
 }
 
-fn load(room: &Room<Log>, pass: &mut Pass<Log>)
-    requires { IsOf journal_meaning room.now pass.old.seat }
-    ensures { IsOf journal_meaning room.now pass.new.seat }
-{
-    let _ = black_box(room.load_version(pass));
-}
-
-/// Four callers.
+/// So many callers, each with a pass that has one client number.
 fn callers<'r>(
     alloc: Global,
     room: &'r Room<Log>,
     mut pass: Pass<Log>,
-) -> Option<Vec<Caller<'r>>>
+    count: u32,
+) -> Result<Vec<Caller<'r>>>
     requires { IsOf journal_meaning room.now pass.seat × (known pass.seat ≡ first_known) }
 {
-    let first = room.new_pass(&mut pass);
-    let second = room.new_pass(&mut pass);
-    let third = room.new_pass(&mut pass);
-    let callers = [
-        Caller { room, pass: first },
-        Caller { room, pass: second },
-        Caller { room, pass: third },
-        Caller { room, pass },
-    ];
-    Vec::from_array(alloc, callers).ok()
+    let mut callers = Vec::new(alloc);
+    for client in 0..count {
+        let caller = Caller {
+            room,
+            pass: room.new_pass(&mut pass),
+            client,
+        };
+        if callers.push(caller).is_err() {
+            bail!("there is no memory for the callers");
+        }
+    }
+    Ok(callers)
 }
 
-/// As many callers, at most four, each on a thread of its own, do the work so often each.
+/// So many callers, each on a thread of its own, do the work so often each.
 pub fn run<R: Threads + Wait + Sync>(
     rt: &R,
     alloc: Global,
     work: RoomWork,
-    threads: usize,
+    threads: u32,
     times: u32,
-) -> Option<()> {
+) -> Result<()> {
     let bounds = Bounds {
-        entries: 0,
-        weight: 0,
+        entries: u64::MAX,
+        weight: u64::MAX,
     };
-    let (room, pass) = Room::new(alloc, Log::new(alloc, Base::Corrupt, bounds)).ok()?;
-    let mut callers = callers(alloc, &room, pass)?;
-    callers.truncate(threads);
-    let works = |caller: Caller| caller.works(rt, work, times);
-    map_vec(rt, callers, &works).ok()?;
-    Some(())
+    let Ok((room, pass)) = Room::new(alloc, Log::new(alloc, Base::Corrupt, bounds)) else {
+        bail!("there is no memory for a room");
+    };
+    let callers = callers(alloc, &room, pass, threads)?;
+    let ended = map_vec(
+        rt,
+        callers,
+        &|caller: Caller| { caller.works(rt, work, times) },
+    )?;
+    if !ended.iter().all(|&well| well) {
+        bail!("there is no memory for the entries");
+    }
+    Ok(())
 }

@@ -80,9 +80,7 @@ fn main_of(alloc: Global, digits: &str) -> Option<MainRead> {
     if digits == "none" {
         return Some(MainRead::Absent);
     }
-    Some(MainRead::Bytes(FileBytes::new(
-        hex::decode(alloc, digits).ok()?,
-    )))
+    Some(MainRead::Bytes(FileBytes::new(hex::decode(alloc, digits).ok()?)))
 }
 
 fn is_main(alloc: Global, folder: &MemFolder, digits: &str) -> Option<bool> {
