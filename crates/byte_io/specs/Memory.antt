@@ -1,5 +1,5 @@
 -- What a source and a sink in memory stand for, which of their calls fail, and what fits.
-use Rattle.std.specs.Prelude.{ℕ, ◌≡◌, ◌-◌, ◌==◌, ◌&&◌, ◌||◌, min, nat_lt, Bool, false, List, length, if◌then◌else◌, is_err, IfOk, Result}
+use Rattle.std.specs.Prelude.{ℕ, ◌≡◌, ◌-◌, ◌==◌, ◌&&◌, ◌||◌, min, nat_lt, Bool, List, length, if◌then◌else◌, is_err, IfOk, Result}
 use Rattle.std.specs.List.{list_any}
 use Rattle.store_traits.specs.Faults.{one_more}
 

@@ -1,5 +1,5 @@
 -- A change of the settings, by the step at which it stopped.
-use Rattle.std.proofs.Common.{◌≡◌, ◌≢◌, inl, inr, ℕ, Bool, false, IsTrue, Result, Ok, Err, List, [], ◌∷◌, ◌⊎◌, ◌++◌, length, sym, subst}
+use Rattle.std.proofs.Common.{◌≡◌, ◌≢◌, inl, inr, ℕ, Bool, false, IsTrue, Result, Ok, Err, List, [], ◌∷◌, ◌⊎◌, length, subst}
 use Rattle.store_traits.specs.Faults.{Counts}
 use Rattle.store_traits.proofs.FaultLemmas.{counts_none}
 use Rattle.folder_disk.specs.declared.call.FolderCall.TheVariants.{ReadMain, SyncFolder}

@@ -1,5 +1,5 @@
 -- What was asked of the folder, one part after the other.
-use Rattle.std.proofs.Common.{◌≡◌, ◌∙◌, ◌++◌, Bool, false, List, [], ◌∷◌, refl, ap}
+use Rattle.std.proofs.Common.{◌≡◌, ◌∙◌, Bool, false, List, [], ◌∷◌, refl, ap}
 use Rattle.folder_disk.specs.declared.call.FolderCall.{FolderCall}
 use Rattle.folder_disk.specs.declared.call.FolderCall.TheVariants.{ReadMain}
 use Rattle.folder_disk.specs.Contents.{Contents, ChangesScratch, LoosensScratch, Scratch}

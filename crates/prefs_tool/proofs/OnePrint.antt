@@ -23,5 +23,5 @@ one_print source one_source other_source sink one_sink other_sink one other =
     let script : one.script ≡ other.script = one_script mode.Replay source.left one.script other.script one.means other.means in
     let text : transcript.text one.run ≡ transcript.text other.run =
     ∥∥₁_elim one.replays (text_set _ _) (λ first. ∥∥₁_elim other.replays (text_set _ _) (λ second.
-      ap transcript.text (runs_once prefs_basis reads_once other.script one.run other.run (subst (λ (s : Script). Runs prefs_basis s one.run) script first.run) second.run))) in
+    ap transcript.text (runs_once prefs_basis reads_once other.script one.run other.run (subst (λ (s : Script). Runs prefs_basis s one.run) script first.run) second.run))) in
     one.printed ∙ ap (λ (t : List ℕ). sink.held ++ t) text ∙ sym other.printed

@@ -1,9 +1,8 @@
 -- What the bytes of main say of main.
-use Rattle.std.proofs.Common.{◌≡◌, ◌≤◌, ◌<◌, ℕ, Bool, false, IsTrue, Result, Ok, Err, Option, Some, None, List, length, refl, sym, subst}
-use Rattle.folder_disk.specs.MainRead.{HasLength}
+use Rattle.std.proofs.Common.{◌≡◌, ◌≤◌, ℕ, Bool, false, IsTrue, Result, Ok, Err, Option, Some, None, List, length, refl, sym, subst}
 use Rattle.prefs_model.specs.declared.pref_pair.PrefPair.{PrefPair}
 use Rattle.prefs_tool.specs.Folder.{is_storage}
-use Rattle.prefs_tool.specs.Reading.{file_limit, ReadsAs, IsCorrupt, IsTooLong, ReadsText, ReadsMap}
+use Rattle.prefs_tool.specs.Reading.{file_limit, ReadsAs, IsCorrupt, ReadsText, ReadsMap}
 use Rattle.prefs_tool.specs.declared.tool_error.ToolError.{ToolError}
 use Rattle.prefs_tool.specs.declared.tool_error.ToolError.TheVariants.{Corrupt, NoMemory}
 
@@ -21,7 +20,3 @@ no_storage_of_bytes bytes (Ok pairs) text = refl
 no_storage_of_bytes bytes (Err Corrupt) text = refl
 no_storage_of_bytes bytes (Err NoMemory) text = refl
 no_storage_of_bytes bytes (Err e) text = absurd text
-
-pub is_too_long : (main : Option (List ℕ)) (len : ℕ) → HasLength main len → file_limit < len → IsTooLong main len
-is_too_long None len has past = absurd has
-is_too_long (Some bytes) len has past = (has, past)

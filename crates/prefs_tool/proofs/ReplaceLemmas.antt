@@ -1,6 +1,5 @@
 -- The calls by which a text becomes main, and what the folder holds where they stop.
-use Rattle.std.proofs.Common.{◌≡◌, ◌∙◌, ◌⊎◌, ◌≤◌, ◌++◌, ℕ, Bool, true, false, List, [], ◌∷◌, Option, Result, Ok, Err, inl, inr, length, refl, sym, ap, subst}
-use Rattle.folder_disk.specs.declared.call.FolderCall.{FolderCall}
+use Rattle.std.proofs.Common.{◌≡◌, ◌∙◌, ◌⊎◌, ◌≤◌, ◌++◌, ℕ, Bool, true, false, List, [], ◌∷◌, Option, Result, Ok, Err, inl, inr, length, ap, subst}
 use Rattle.folder_disk.specs.declared.call.FolderCall.TheVariants.{Create, SyncScratch, Rename, SyncFolder}
 use Rattle.folder_disk.specs.Calls.{Makes}
 use Rattle.folder_disk.specs.Contents.{Contents, Kept, Scratch, Synced, folder_synced, renamed}

@@ -1,5 +1,5 @@
 -- Pieces that are written one after the other.
-use Rattle.std.proofs.Common.{◌≡◌, ◌∙◌, ◌++◌, ℕ, Result, Ok, Err, List, ap, subst, append_assoc}
+use Rattle.std.proofs.Common.{◌∙◌, ◌++◌, ℕ, Result, Ok, Err, List, ap, subst, append_assoc}
 use Rattle.store_traits.specs.Faults.{Rose}
 use Rattle.byte_io.specs.declared.sink.Sink as sink_trait
 use Rattle.byte_io.specs.Seen.{SinkSeen, sink_seen}

@@ -1,5 +1,5 @@
 -- How the body of a command ends: what there is to tell, and what of it the sink has.
-use Rattle.std.specs.Prelude.{ℕ, ◌≡◌, Bool, IsTrue, List, [], Option, Result, Ok, Err, String, string_bytes}
+use Rattle.std.specs.Prelude.{ℕ, Bool, IsTrue, List, [], Option, Result, Ok, Err, String, string_bytes}
 use Rattle.std.specs.declared.alloc.Global.{Global}
 use Rattle.byte_io.specs.Seen.{SinkSeen}
 use Rattle.folder_disk.specs.Seen.{FolderSeen}

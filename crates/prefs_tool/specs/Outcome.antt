@@ -1,5 +1,5 @@
 -- What a command answers, by its status: what it tells, why it stopped, and what the folder and the sink hold then.
-use Rattle.std.specs.Prelude.{ℕ, ◌≡◌, ◌⊎◌, ◌++◌, Bool, false, IsTrue, List, [], Option, Some, None, Result, Ok, Err}
+use Rattle.std.specs.Prelude.{ℕ, ◌≡◌, ◌⊎◌, ◌++◌, Bool, IsTrue, List, [], Option, Some, None, Result, Ok, Err}
 use Rattle.std.specs.List.{flat_map}
 use Rattle.store_traits.specs.Faults.{Counts}
 use Rattle.byte_io.specs.Seen.{SinkSeen}

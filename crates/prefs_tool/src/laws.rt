@@ -1,5 +1,5 @@
 //! What the commands promise together: each law is the contract of a function that does nothing.
-ghost use Rattle.std.specs.Prelude.{◌≡◌, ◌⊎◌, IsTrue, List};
+ghost use Rattle.std.specs.Prelude.{◌≡◌, ◌⊎◌, IsTrue};
 ghost use Rattle.byte_io.specs.Seen.{SinkSeen, SourceSeen};
 ghost use Rattle.folder_disk.specs.Seen.{FolderSeen};
 ghost use Rattle.command_words.specs.declared.command.Command.{Command};

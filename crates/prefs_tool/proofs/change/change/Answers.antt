@@ -1,5 +1,5 @@
 -- Nothing is written where the map stays as it was, and another map is stored.
-use Rattle.std.proofs.Common.{◌≡◌, List, sym, subst}
+use Rattle.std.proofs.Common.{◌≡◌, List, subst}
 use Rattle.std.proofs.lemmas.Result.{err_from_is_err_and}
 use Rattle.store_traits.specs.declared.applied.Applied.TheVariants.{Changed}
 use Rattle.store_traits.proofs.FaultLemmas.{counts_since}

@@ -1,16 +1,12 @@
 -- Main was read once, and what it reads as is no fault of the folder.
-use Rattle.std.proofs.Common.{false, IsTrue, subst, sym}
-use Rattle.store_traits.specs.Faults.{Counts}
+use Rattle.std.proofs.Common.{false}
 use Rattle.folder_disk.specs.declared.call.FolderCall.TheVariants.{ReadMain}
-use Rattle.folder_disk.specs.Seen.{folder_seen}
 use Rattle.folder_disk.proofs.CallLemmas.{makes_one}
-use Rattle.prefs_tool.specs.Folder.{OnlyReads}
-use Rattle.prefs_tool.proofs.ReadLemmas.{is_too_long, no_storage_of_bytes, reads_bytes}
+use Rattle.prefs_tool.proofs.ReadLemmas.{no_storage_of_bytes, reads_bytes}
 use Rattle.prefs_tool.proofs.read.read_map.Goals as goal
 
 pub returns-in-Ok-Bytes : goal.returns-in-Ok-Bytes
 returns-in-Ok-Bytes g c =
-    let seen = folder_seen g.F.Folder in
     let tally = g.F.Folder.tally in
     let read = rw c.in-Ok-Bytes.field-0-is at c.in-Ok-Bytes.ensures.read in
     let text = rw c.as_slice.ensures at c.map_of.ensures in

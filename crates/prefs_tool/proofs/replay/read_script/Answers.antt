@@ -1,5 +1,4 @@
 -- What the bytes are is no fault of the source that gave them.
-use Rattle.std.proofs.Common.{subst}
 use Rattle.byte_io.specs.Seen.{source_seen}
 use Rattle.prefs_tool.proofs.ReplayLemmas.{bytes_are_no_fault, reads_script}
 use Rattle.prefs_tool.proofs.replay.read_script.Goals as goal

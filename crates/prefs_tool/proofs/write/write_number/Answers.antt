@@ -1,5 +1,5 @@
 -- The front, then the number, then the end.
-use Rattle.std.proofs.Common.{◌≡◌, ◌∙◌, ◌++◌, List, ℕ, Ok, Err, decimal, subst}
+use Rattle.std.proofs.Common.{◌≡◌, ◌∙◌, ◌++◌, List, ℕ, Err, decimal, subst}
 use Rattle.std.proofs.lemmas.Result.{err_from_is_err_and}
 use Rattle.byte_io.specs.Seen.{sink_seen}
 use Rattle.prefs_tool.specs.Writing.{Gains, WritesPiece}
