@@ -7,6 +7,8 @@ pub mod Calls
 pub mod Causes
 pub mod Changes
 pub mod Deaths
+pub mod Decided
+pub mod Each
 pub mod Effects
 pub mod Endings
 pub mod Entries
