@@ -2,5 +2,5 @@ mod Fits
 mod Holds
 mod LeftAlone
 mod Maps
-mod Same
+pub mod Same
 mod Turns

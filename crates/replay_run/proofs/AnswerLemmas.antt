@@ -20,7 +20,7 @@ use Rattle.shelf.specs.Rules.{Rules}
 use Rattle.step_table.specs.World.{World}
 use Rattle.shelf.proofs.CauseLemmas.{HasCause-more, IsUpdated-more, none_up_to}
 use Rattle.shelf.proofs.MeanwhileLemmas as meanwhile
-use Rattle.script_lang.specs.Each.{Each}
+use Rattle.shelf.specs.Each.{Each}
 use Rattle.replay_run.specs.ClientKeeps.{IsExplained, IsTrueAnswer, KeepsClient, KeepsRunning}
 use Rattle.replay_run.specs.Scene.{Answered, Client, call_of}
 use Rattle.replay_run.specs.ShownByAnswers.{shown_by, shown_of}

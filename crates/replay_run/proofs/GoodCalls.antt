@@ -22,7 +22,7 @@ use Rattle.script_lang.specs.declared.script.Script.{Script}
 use Rattle.script_lang.specs.AnswerForms.{answers, answers_update, is_cut, update_error}
 use Rattle.script_lang.specs.Asked.{asked_by, home_of, is_actor, is_call_line_of}
 use Rattle.script_lang.specs.Chronicle.{Basis, Chapter}
-use Rattle.script_lang.specs.Each.{Each}
+use Rattle.shelf.specs.Each.{Each}
 use Rattle.script_lang.specs.GoodAnswers.{HasForm, IsAsked, IsHome, IsTold}
 use Rattle.script_lang.specs.GoodCauses.{HasActorCause, HasCauseBy, HasUpdateCause, IsCaused}
 use Rattle.script_lang.specs.GoodUpdates.{Acknowledges, IsAcknowledged, IsDone, has_restart}

@@ -29,7 +29,7 @@ use Rattle.shelf.proofs.SameCalls.{itself}
 use Rattle.script_lang.specs.declared.script.Script.{Script}
 use Rattle.script_lang.specs.Asked.{asked_by}
 use Rattle.script_lang.specs.Chronicle.{Basis, Chapter}
-use Rattle.script_lang.specs.Each.{Each}
+use Rattle.shelf.specs.Each.{Each}
 use Rattle.script_lang.specs.GoodCauses.{HasCauses, IsOwnEdit}
 use Rattle.script_lang.specs.GoodUpdates.{IsAcknowledged}
 use Rattle.replay_run.specs.ClientKeeps.{IsExplained, IsTrueAnswer, KeepsClient, KeepsRunning, may_stand}

@@ -9,7 +9,7 @@ use Rattle.prefs_model.specs.declared.pref_pair.PrefPair.{PrefPair}
 use Rattle.prefs_text.specs.declared.seen.AnswerLineSeen.{AnswerLineSeen}
 use Rattle.hist_journal.proofs.ClearingLemmas.{longer}
 use Rattle.script_lang.specs.Chronicle.{Basis, Chapter}
-use Rattle.script_lang.specs.Each.{Each}
+use Rattle.shelf.specs.Each.{Each}
 use Rattle.replay_run.specs.ClientKeeps.{KeepsClient}
 use Rattle.replay_run.specs.Scene.{Answered, Scene}
 use Rattle.replay_run.specs.SceneKeeps.{SceneKeeps}

@@ -19,7 +19,7 @@ use Rattle.script_lang.specs.declared.session_plan.SessionPlan.{SessionPlan}
 use Rattle.script_lang.specs.declared.transcript.Transcript.{Transcript}
 use Rattle.script_lang.specs.Asked.{is_actor}
 use Rattle.script_lang.specs.Chronicle.{Basis, Chapter}
-use Rattle.script_lang.specs.Each.{Each}
+use Rattle.shelf.specs.Each.{Each}
 use Rattle.script_lang.specs.Good.{Good}
 use Rattle.script_lang.specs.GoodAnswers.{AnswersCalls, HasHomes, is_answer_of}
 use Rattle.script_lang.specs.Keeps.{IsPlain, Keeps}
@@ -122,12 +122,17 @@ module _ (b : Basis) (script : Script) (transcript : Transcript) (kept : Keeps s
   all_there : length end.clients ≡ length script.homes
   all_there = run_clients b.rules runs.played.store script.homes orders end runs.played.run
 
-  unplanned : c.plan.deaths ≡ []
-  unplanned =
+  plain : IsPlain runs.plan
+  plain =
       let same : kept.sessions.plan ∷ [] ≡ runs.plan ∷ [] = sym kept.sessions.only ∙ runs.one_plan in
       let one : kept.sessions.plan ≡ runs.plan = cc in
-      let plain : IsPlain runs.plan = subst (λ plan. IsPlain plan) one kept.sessions.plain in
-      ap (λ (plan : SessionPlan). plan.deaths) plain
+      subst (λ plan. IsPlain plan) one kept.sessions.plain
+
+  unplanned : c.plan.deaths ≡ []
+  unplanned = ap (λ (plan : SessionPlan). plan.deaths) plain
+
+  unstopped : c.plan.stop ≡ None
+  unstopped = ap (λ (plan : SessionPlan). plan.stop) plain
 
   homes : HasHomes script c
   homes =
@@ -174,4 +179,4 @@ module _ (b : Basis) (script : Script) (transcript : Transcript) (kept : Keeps s
 
   -- where its end keeps what it is to, a run gives a transcript that tells the truth
   pub good_end : Good b script transcript
-  good_end = good_of_one b script runs.plan runs.told transcript runs.names runs.one_plan runs.one_told chapter_good none_of_actors
+  good_end = good_of_one b script runs.plan runs.told transcript runs.names runs.one_plan unstopped runs.one_told chapter_good none_of_actors

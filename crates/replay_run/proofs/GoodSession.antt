@@ -11,7 +11,7 @@ use Rattle.prefs_text.specs.declared.seen.AnswerLineSeen.{AnswerLineSeen}
 use Rattle.prefs_text.specs.declared.seen.AnswerSeen.{AnswerSeen}
 use Rattle.prefs_text.specs.declared.seen.AnswerSeen.TheVariants as seen
 use Rattle.script_lang.specs.Chronicle.{Basis, Chapter}
-use Rattle.script_lang.specs.Each.{Each}
+use Rattle.shelf.specs.Each.{Each}
 use Rattle.script_lang.specs.GoodReads.{GivesValue, GivesValues, KeepsFlow, KeepsFresh}
 use Rattle.script_lang.specs.Shown.{last_flow, printed, shown_to}
 use Rattle.replay_run.specs.ClientKeeps.{IsTrueAnswer, KeepsClient}

@@ -37,8 +37,8 @@ use Rattle.node_core.proofs.CauseOfAnswers.{error_has_cause, told_cause}
 use Rattle.node_core.proofs.ForLemmas.{turn_is_for, still_for}
 use Rattle.node_core.proofs.KeepingLemmas.{turn_keeps_knowledge}
 use Rattle.node_core.proofs.SparingLemmas.{turn_owner, turn_spares}
-use Rattle.script_lang.specs.Each.{Each}
-use Rattle.script_lang.proofs.EachLemmas.{each_push}
+use Rattle.shelf.specs.Each.{Each}
+use Rattle.shelf.proofs.EachLemmas.{each_push}
 use Rattle.replay_run.specs.ClientKeeps.{IsExplained, IsTrueAnswer, KeepsCall, KeepsClient, KeepsRunning, may_stand}
 use Rattle.replay_run.specs.Scene.{Answered, Client, Scene, call_of}
 use Rattle.replay_run.specs.SceneKeeps.{HasOwner, IsOfCall, SceneKeeps, ShelfKeeps}

@@ -15,7 +15,7 @@ use Rattle.shelf.specs.Rules.{Rules}
 use Rattle.step_table.specs.World.{World}
 use Rattle.node_core.specs.Knows.{Knows}
 use Rattle.node_core.specs.Own.{IsFor}
-use Rattle.script_lang.specs.Each.{Each}
+use Rattle.shelf.specs.Each.{Each}
 use Rattle.replay_run.specs.Scene.{Answered, Client, call_of}
 use Rattle.replay_run.specs.ShownByAnswers.{printed_by, shown_of}
 

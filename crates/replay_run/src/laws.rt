@@ -8,6 +8,7 @@ ghost use Rattle.script_lang.specs.declared.script.Script.{Script};
 ghost use Rattle.script_lang.specs.declared.transcript.Transcript.{Transcript};
 ghost use Rattle.script_lang.specs.Good.{Good};
 ghost use Rattle.script_lang.specs.Keeps.{Keeps};
+ghost use Rattle.script_lang.specs.TruthTests.{ReadingTests, TruthTests};
 ghost use Rattle.replay_run.specs.PrefsBasis.{prefs_basis};
 ghost use Rattle.replay_run.specs.Run.{world_of};
 ghost use Rattle.replay_run.specs.SceneKeeps.{EndKeeps};
@@ -18,6 +19,12 @@ ghost use Rattle.replay_run.specs.ScriptRun.{Runs};
 pub fn runs_are_good()
     ensures { (script : Script) (transcript : Transcript) → Keeps script → (run : Runs prefs_basis script transcript)
         → EndKeeps prefs_basis.rules run.played.store run.played.end → Good prefs_basis script transcript }
+{}
+
+/// With a test of whether the bytes of a file read as a map, and one of whether they read as none, a test is true exactly
+/// where a transcript tells the truth of its script, and one for each rule exactly where it holds.
+pub fn truth_has_tests_of_settings()
+    ensures { ReadingTests prefs_basis → TruthTests prefs_basis }
 {}
 
 /// A script comes to one transcript at most: the runs of it give the same, however many rounds they take.

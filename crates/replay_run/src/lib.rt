@@ -13,7 +13,9 @@ mod replaying;
 mod run_examples;
 mod stage;
 
-pub use laws::{runs_are_good, runs_start_as_sessions_begin, scripts_have_one_run};
+pub use laws::{
+    runs_are_good, runs_start_as_sessions_begin, scripts_have_one_run, truth_has_tests_of_settings,
+};
 pub use prefs_parts::PrefsParts;
 pub use replaying::replay;
 pub use run_examples::runs_are_as_written;

@@ -40,4 +40,5 @@ call_of script before line = record { node = home_of script line.client; client 
 unfoldable pub asked_by : Script → List RunLine → List RunLine → List Asked
 asked_by script before [] = []
 asked_by script before (line ∷ lines) =
-    if is_call_line line then record { call = call_of script before line; act = line.act } ∷ asked_by script (before ++ line ∷ []) lines else asked_by script (before ++ line ∷ []) lines
+    let rest : List Asked = asked_by script (before ++ line ∷ []) lines in
+    if is_call_line line then record { call = call_of script before line; act = line.act } ∷ rest else rest

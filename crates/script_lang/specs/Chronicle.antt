@@ -1,5 +1,5 @@
 -- The sessions of a transcript, as they follow one another over stops of the machine.
-use Rattle.std.specs.Prelude.{◌≡◌, ℕ, ◌-◌, min, true, List, [], ◌∷◌, ◌++◌, length, slice_index_or, map, Option, Some, None, unwrap_or, if◌then◌else◌}
+use Rattle.std.specs.Prelude.{◌≡◌, ℕ, ◌-◌, min, true, false, List, [], ◌∷◌, ◌++◌, length, replicate, slice_index_or, map, Option, Some, None, is_some, unwrap_or, if◌then◌else◌}
 use Rattle.std.specs.List.{enumerate_from}
 use Rattle.store_traits.specs.declared.ids.NodeId.{NodeId}
 use Rattle.folder_disk.specs.MainRead.{main_of}
@@ -19,7 +19,7 @@ use Rattle.script_lang.specs.declared.run_line.RunLine.{RunLine}
 use Rattle.script_lang.specs.declared.script.Script.{Script}
 use Rattle.script_lang.specs.declared.session_plan.SessionPlan.{SessionPlan}
 use Rattle.script_lang.specs.Asked.{Asked, asked_by}
-use Rattle.script_lang.specs.Each.{Each}
+use Rattle.shelf.specs.Each.{Each}
 use Rattle.script_lang.specs.TranscriptView.{SessionSeen}
 
 -- what edits and files mean, how long a file may be, and how much a history may weigh
@@ -105,7 +105,9 @@ module _ (b : Basis) where
     pub base : HasItsBase b.rules.reads b.rules.absent c.store
     pub history : Legal b.rules.meanings c.store c.told.entries
 
-  -- a session is told for each of the script, of which a stop ends all but the last
   pub record IsChronicle (script : Script) (told : List SessionSeen) (chapters : List Chapter) : Type 0 where
+    -- a session is told for each of the script
     pub sessions : length told ≡ length script.sessions
+    -- a session ends in a stop exactly where a next one begins
+    pub stops : map (λ plan. is_some plan.stop) script.sessions ≡ replicate (length script.sessions - 1) true ++ false ∷ []
     pub lawful : Each (λ before c. IsLawful c) chapters

@@ -9,7 +9,7 @@ use Rattle.script_lang.specs.declared.file_seen.FileSeen.TheVariants.{Absent, By
 use Rattle.script_lang.specs.declared.script.Script.{Script}
 use Rattle.script_lang.specs.declared.transcript.Transcript.{Transcript}
 use Rattle.script_lang.specs.Chronicle.{Basis, Beginning, Chapter, IsChronicle, chronicle, count_after, first_beginning}
-use Rattle.script_lang.specs.Each.{Each}
+use Rattle.shelf.specs.Each.{Each}
 use Rattle.script_lang.specs.GoodAnswers.{HasHomes, IsAnswered}
 use Rattle.script_lang.specs.GoodCauses.{HasCauses}
 use Rattle.script_lang.specs.GoodFailures.{DiesAsPlanned, FailsAsPlanned}

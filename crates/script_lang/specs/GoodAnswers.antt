@@ -11,7 +11,7 @@ use Rattle.script_lang.specs.declared.script.Script.{Script}
 use Rattle.script_lang.specs.AnswerForms.{answers, answers_update, is_cut}
 use Rattle.script_lang.specs.Asked.{Asked, home_of, is_actor}
 use Rattle.script_lang.specs.Chronicle.{Chapter}
-use Rattle.script_lang.specs.Each.{Each}
+use Rattle.shelf.specs.Each.{Each}
 
 -- the call is of a client or an actor of the script, and has its node
 pub record IsHome (script : Script) (call : CallId) : Type 0 where

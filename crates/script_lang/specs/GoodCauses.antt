@@ -20,7 +20,7 @@ use Rattle.script_lang.specs.declared.run_line.Act.{Act}
 use Rattle.script_lang.specs.declared.run_line.Act.TheVariants as act
 use Rattle.script_lang.specs.AnswerForms.{read_error, update_error}
 use Rattle.script_lang.specs.Chronicle.{Basis, Chapter}
-use Rattle.script_lang.specs.Each.{Each}
+use Rattle.shelf.specs.Each.{Each}
 use Rattle.script_lang.specs.GoodAnswers.{IsAsked}
 use Rattle.script_lang.specs.GoodUpdates.{CarriesEdit}
 use Rattle.script_lang.specs.Shown.{shown_to}

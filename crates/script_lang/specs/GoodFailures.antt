@@ -15,7 +15,7 @@ use Rattle.shelf.specs.Entries.{is_death, is_own}
 use Rattle.shelf.specs.Places.{is_fault_of}
 use Rattle.shelf.specs.WritingSteps.{is_writing}
 use Rattle.script_lang.specs.Chronicle.{Chapter}
-use Rattle.script_lang.specs.Each.{Each}
+use Rattle.shelf.specs.Each.{Each}
 
 -- whether the last entry of this call, or what is said of none, is a Raise
 unfoldable pub ends_in_raise : CallId → Bool → List PrefEntry → Bool

@@ -10,7 +10,7 @@ use Rattle.prefs_text.specs.declared.seen.AnswerSeen.TheVariants.{Read, Flow, Un
 use Rattle.shelf.specs.Legal.{value_at}
 use Rattle.shelf.specs.Places.{HasFront}
 use Rattle.script_lang.specs.Chronicle.{Basis, Chapter}
-use Rattle.script_lang.specs.Each.{Each}
+use Rattle.shelf.specs.Each.{Each}
 use Rattle.script_lang.specs.Shown.{last_flow, printed, shown_to}
 
 module _ (b : Basis) (c : Chapter) where

@@ -16,7 +16,7 @@ use Rattle.shelf.specs.Entries.{is_own}
 use Rattle.shelf.specs.Places.{StandsAt}
 use Rattle.script_lang.specs.declared.run_line.Act.TheVariants as act
 use Rattle.script_lang.specs.Chronicle.{Chapter}
-use Rattle.script_lang.specs.Each.{Each}
+use Rattle.shelf.specs.Each.{Each}
 
 -- the call that the line answers carries this edit: of a client by its line, of an actor by the line of the poster
 abbrev pub CarriesEdit : Chapter → AnswerLineSeen → List EditStep → Type 0

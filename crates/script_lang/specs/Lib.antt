@@ -2,7 +2,6 @@ pub mod AnswerForms
 pub mod Asked
 pub mod Chronicle
 pub mod Draft
-pub mod Each
 pub mod FaultOfWords
 pub mod Faults
 pub mod Finding
@@ -22,8 +21,12 @@ pub mod Meaning
 pub mod NameTable
 pub mod Reading
 pub mod Rows
+pub mod Rules
 pub mod Shown
 pub mod Spelling
 pub mod TranscriptText
 pub mod TranscriptView
 pub mod TruthExamples
+pub mod TruthTests
+pub mod UntrueCauses
+pub mod UntrueExamples

@@ -1,4 +1,4 @@
--- Scripts with transcripts that tell the truth of them, and transcripts that do not.
+-- Scripts with transcripts that tell the truth of them.
 use Rattle.std.specs.Prelude.{◌≡◌, ℕ, pos, List, [], ◌∷◌, ◌++◌, codes, None, Some, false}
 use Rattle.std.specs.List.{flat_map}
 use Rattle.store_traits.specs.declared.ids.CallId.{CallId}
@@ -21,10 +21,10 @@ use Rattle.prefs_text.specs.declared.names.Names.{Names}
 use Rattle.prefs_text.specs.declared.seen.AnswerLineSeen.{AnswerLineSeen}
 use Rattle.prefs_text.specs.declared.seen.AnswerSeen.{AnswerSeen}
 use Rattle.prefs_text.specs.declared.seen.AnswerSeen.TheVariants as answer
-use Rattle.prefs_text.specs.declared.seen.AnswerSeen.TheVariants.{Updated, Unchanged, Refused, StorageFault, NotDurable, Died, Posted, Restarted, Cut}
+use Rattle.prefs_text.specs.declared.seen.AnswerSeen.TheVariants.{Updated, Unchanged, Refused, NotDurable, Died, Posted, Restarted}
 use Rattle.prefs_text.specs.EntryText.{PrefEntry, PrefKind}
 use Rattle.shelf.specs.Rules.{rules_of}
-use Rattle.script_lang.specs.declared.file_seen.FileSeen.TheVariants.{Absent, Bytes}
+use Rattle.script_lang.specs.declared.file_seen.FileSeen.TheVariants.{Bytes}
 use Rattle.script_lang.specs.declared.run_line.Act.TheVariants.{Update, Read, Flow, Post, Restart, Go}
 use Rattle.script_lang.specs.declared.run_line.RunLine.{RunLine}
 use Rattle.script_lang.specs.declared.script.Script.{Script}
@@ -175,37 +175,6 @@ two_posts_told =
       file = Bytes (encoded (holds (codes "x") 5));
     }
 
--- the second job is dropped
-abbrev pub job_dropped : SessionSeen
-job_dropped =
-    record two_posts_told {
-      answers = answered (a 1) Posted ∷ answered (a 2) Posted ∷ did (actor 1) (a 1) (Updated 1) ∷ [];
-      entries = update (actor 1) (add (codes "x"));
-      file = Bytes (encoded (holds (codes "x") 1));
-    }
-
--- the second job is done first
-abbrev pub jobs_exchanged : SessionSeen
-jobs_exchanged =
-    record two_posts_told {
-      answers = answered (a 1) Posted ∷ answered (a 2) Posted ∷ did (actor 1) (a 2) (Updated 1) ∷ did (actor 2) (a 1) (Updated 2) ∷ [];
-      entries = update (actor 1) (set (codes "x") 5) ++ entry (actor 2) Raise ∷ entry (actor 2) (Edit (add (codes "x"))) ∷ entry (actor 2) Synced ∷ [];
-      file = Bytes (encoded (holds (codes "x") 6));
-    }
-
--- the stop is said to have undone what was synced
-abbrev pub stop_undid : Transcript
-stop_undid = record { names = names; sessions = death_told ∷ record read_told { base = Held []; answers = answered (b 2) (answer.Read 0 []) ∷ []; file = Absent } ∷ [] }
-
--- a node died, and no line plans it
-abbrev pub death_unplanned : SessionSeen
-death_unplanned =
-    record two_nodes_told {
-      answers = answered (a 1) (Died 2) ∷ answered (b 1) (Updated 1) ∷ [];
-      entries = entry (a 1) (Inited (a 1).node) ∷ entry (a 1) (Death (a 1).node) ∷ update (b 1) (add (codes "x"));
-      file = Bytes (encoded (holds (codes "x") 1));
-    }
-
 -- the folder is not synced behind the rename, and the value stands
 abbrev pub sync_failed_plan : SessionPlan
 sync_failed_plan = record (plan (asks (a 1) (set (codes "k") 1) ∷ record { client = (a 2).client; act = Read } ∷ [])) { folder_faults = record { call = SyncFolder; number = 1 } ∷ [] }
@@ -267,45 +236,6 @@ flows_told =
       file = Bytes (encoded (holds (codes "k") 1));
     }
 
--- the second answer is missing
-abbrev pub answer_missing : SessionSeen
-answer_missing = record two_nodes_told { answers = answered (a 1) (Updated 1) ∷ [] }
-
--- the second edition is one too high
-abbrev pub edition_too_high : SessionSeen
-edition_too_high = record two_nodes_told { answers = answered (a 1) (Updated 1) ∷ answered (b 1) (Updated 3) ∷ [] }
-
--- the last Synced is left out
-abbrev pub synced_left_out : SessionSeen
-synced_left_out =
-    record two_nodes_told {
-      entries = update (a 1) (add (codes "x")) ++ entry (b 1) (Inited (b 1).node) ∷ entry (b 1) Raise ∷ entry (b 1) (Edit (add (codes "x"))) ∷ [];
-    }
-
--- the answers stand in the order in which the calls ended
-abbrev pub answers_out_of_order : SessionSeen
-answers_out_of_order =
-    record two_nodes_told {
-      answers = answered (b 1) (Updated 1) ∷ answered (a 1) (Updated 2) ∷ [];
-      entries = update (b 1) (add (codes "x")) ++ update (a 1) (add (codes "x"));
-    }
-
--- the base is what main reads as in the end
-abbrev pub base_from_the_end : SessionSeen
-base_from_the_end = record two_nodes_told { base = Held (holds (codes "x") 2) }
-
--- the file is that of the start
-abbrev pub file_of_the_start : SessionSeen
-file_of_the_start = record two_nodes_told { file = Absent }
-
--- the folder is said to have failed, and no entry says so
-abbrev pub fault_without_entry : SessionSeen
-fault_without_entry = record two_nodes_told { answers = answered (a 1) (Updated 1) ∷ answered (b 1) (StorageFault 8) ∷ [] }
-
--- nothing stopped the machine
-abbrev pub cut_without_stop : SessionSeen
-cut_without_stop = record two_nodes_told { answers = answered (a 1) (Updated 1) ∷ answered (b 1) Cut ∷ [] }
-
 -- two nodes set two numbers
 abbrev pub two_sets_plan : SessionPlan
 two_sets_plan = plan (asks (a 1) (set (codes "x") 1) ∷ asks (b 1) (set (codes "x") 2) ∷ [])
@@ -313,32 +243,12 @@ two_sets_plan = plan (asks (a 1) (set (codes "x") 1) ∷ asks (b 1) (set (codes 
 abbrev pub two_sets : Script
 two_sets = script main.Absent two_sets_plan
 
--- each carries the edit of the other
-abbrev pub edits_exchanged : SessionSeen
-edits_exchanged =
-    record {
-      base = Held [];
-      answers = answered (a 1) (Updated 1) ∷ answered (b 1) (Updated 2) ∷ [];
-      entries = update (a 1) (set (codes "x") 2) ++ update (b 1) (set (codes "x") 1);
-      file = Bytes (encoded (holds (codes "x") 1));
-    }
-
 -- a client updates, and reads
 abbrev pub update_then_read_plan : SessionPlan
 update_then_read_plan = plan (asks (a 1) (add (codes "x")) ∷ record { client = (a 2).client; act = Read } ∷ [])
 
 abbrev pub update_then_read : Script
 update_then_read = script main.Absent update_then_read_plan
-
--- it reads what was there before its own update
-abbrev pub read_too_early : SessionSeen
-read_too_early =
-    record {
-      base = Held [];
-      answers = answered (a 1) (Updated 1) ∷ answered (a 2) (answer.Read 0 []) ∷ [];
-      entries = update (a 1) (add (codes "x"));
-      file = Bytes (encoded (holds (codes "x") 1));
-    }
 
 -- what is there already is set
 abbrev pub equal_value_plan : SessionPlan

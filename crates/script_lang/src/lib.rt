@@ -27,6 +27,8 @@ mod start;
 mod start_rows;
 mod transcript;
 mod truth_examples;
+mod truth_tests;
+mod untrue_examples;
 mod write_text_error;
 mod writing;
 
@@ -50,6 +52,11 @@ pub use session_list::SessionList;
 pub use session_plan::SessionPlan;
 pub use start::Start;
 pub use transcript::Transcript;
-pub use truth_examples::{transcripts_are_good, transcripts_are_no_good};
+pub use truth_examples::transcripts_are_good;
+pub use truth_tests::{histories_have_tests, truth_has_tests};
+pub use untrue_examples::{
+    untrue_answers, untrue_causes, untrue_failures, untrue_files, untrue_jobs, untrue_orders,
+    untrue_reads, untrue_sessions, untrue_updates,
+};
 pub use write_text_error::WriteTextError;
 pub use writing::write_transcript;

@@ -65,6 +65,10 @@ unreadable = store Corrupt (Some (10 ∷ 10 ∷ [])) (Some 0)
 abbrev pub too_long : Store ℕ (Unit {0})
 too_long = record unreadable { base = TooLong 2; limits = record { file = 1; history = record { entries = 100000; weight = 67108864 } } }
 
+-- the folder failed once before
+abbrev pub failed_once : Store ℕ (Unit {0})
+failed_once = record empty { folder = record { count = 1; most = None } }
+
 abbrev pub Entry : Type 0
 Entry = EntrySeen ℕ ExampleEdit
 

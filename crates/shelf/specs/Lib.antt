@@ -5,6 +5,8 @@ pub mod CallOrder
 pub mod Causes
 pub mod Changes
 pub mod Deaths
+pub mod Decided
+pub mod Each
 pub mod Endings
 pub mod Entries
 pub mod ExampleStore

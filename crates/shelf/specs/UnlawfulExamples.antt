@@ -1,7 +1,7 @@
 -- Histories of the small store that are not lawful, by their last entry.
 use Rattle.std.specs.Prelude.{List, [], ◌∷◌}
-use Rattle.hist_journal.specs.declared.device.Device.TheVariants.{Folder}
-use Rattle.hist_journal.specs.declared.seen.KindSeen.TheVariants.{Raise, Edit, Same, Replace, Migrate, Synced, Inited, Fault, Death, Restart}
+use Rattle.hist_journal.specs.declared.device.Device.TheVariants.{Folder, Legacy}
+use Rattle.hist_journal.specs.declared.seen.KindSeen.TheVariants.{Raise, Edit, Same, Replace, Migrate, Cleared, Synced, Inited, Fault, Death, Restart}
 use Rattle.shelf.specs.declared.examples.ExampleEdit.TheVariants.{Set, Add}
 use Rattle.shelf.specs.ExampleStore.{Entry, a, b, c, n1, n2}
 
@@ -80,3 +80,27 @@ settings_taken = a 1 Raise ∷ a 1 (Migrate [] 1) ∷ []
 -- a call of a node's former life changes the value
 abbrev pub former_life : List Entry
 former_life = a 1 (Inited n1) ∷ a 1 Raise ∷ c 1 (Death n1) ∷ b 1 (Restart n1) ∷ a 1 (Edit (Set 1)) ∷ []
+
+-- an unreadable file is replaced by another value than the given one
+abbrev pub another_replaced : List Entry
+another_replaced = a 1 Raise ∷ a 1 (Replace 1) ∷ []
+
+-- the old settings fail behind an Edit
+abbrev pub settings_fault : List Entry
+settings_fault = a 1 (Inited n1) ∷ a 1 Raise ∷ a 1 (Edit (Set 1)) ∷ a 1 (Fault Legacy 1) ∷ []
+
+-- a call initialises another node
+abbrev pub another_inited : List Entry
+another_inited = a 1 (Inited n2) ∷ []
+
+-- a node is initialised where there is no value
+abbrev pub inited_unreadable : List Entry
+inited_unreadable = a 1 (Inited n1) ∷ []
+
+-- the count of a device is that of the start
+abbrev pub count_of_start : List Entry
+count_of_start = a 1 (Fault Folder 1) ∷ []
+
+-- old settings are cleared, which is not lawful yet
+abbrev pub settings_cleared : List Entry
+settings_cleared = a 1 (Cleared []) ∷ []

@@ -9,6 +9,7 @@ ghost use Rattle.hist_journal.specs.declared.seen.EntrySeen.{EntrySeen};
 ghost use Rattle.shelf.specs.declared.store.Store.{Store};
 ghost use Rattle.shelf.specs.Acknowledged.{IsUpdated};
 ghost use Rattle.shelf.specs.Causes.{HasCause, HasReadCause};
+ghost use Rattle.shelf.specs.Decided.{Decided};
 ghost use Rattle.shelf.specs.Entries.{is_any, is_own};
 ghost use Rattle.shelf.specs.Places.{is_up_to};
 ghost use Rattle.shelf.specs.Rules.{rules_of};
@@ -29,6 +30,14 @@ pub fn causes_by_the_start<C: Codec, T: Transform<Value = C::Value>, M, N>()
     ensures read { (c : C) (s : Store C.Value M) (t : Store C.Value N) → t.base ≡ s.base → t.handler ≡ s.handler → t.limits ≡ s.limits
         → (shown : ℕ) (call : CallId) (err : ReadError) (list : List (EntrySeen C.Value T)) → let r = rules_of T.after T.weight_of (C.encoded c) (C.reads c) (C.default_of c) in
         HasReadCause r s shown call err list → HasReadCause r t shown call err list }
+{}
+
+/// Whether an error has its cause is told by a test, for values of which one tells whether they are the same.
+pub fn causes_have_a_test<C: Codec, T: Transform<Value = C::Value>, M>()
+    ensures update { (same : (a b : C.Value) → Decided (a ≡ b)) (c : C) (s : Store C.Value M) (shown : ℕ) (call : CallId) (edit : T) (err : UpdateError) (list : List (EntrySeen C.Value T))
+        → Decided (HasCause (rules_of T.after T.weight_of (C.encoded c) (C.reads c) (C.default_of c)) s shown call edit err list) }
+    ensures read { (same : (a b : C.Value) → Decided (a ≡ b)) (c : C) (s : Store C.Value M) (shown : ℕ) (call : CallId) (err : ReadError) (list : List (EntrySeen C.Value T))
+        → Decided (HasReadCause (rules_of T.after T.weight_of (C.encoded c) (C.reads c) (C.default_of c)) s shown call err list) }
 {}
 
 /// An error keeps its cause.

@@ -75,4 +75,10 @@ pub fn histories_are_unlawful()
     ensures numbers_fall { Legal example.meanings example.empty unlawful.numbers_fall → ⊥ }
     ensures count_stays { Legal example.meanings example.empty unlawful.count_stays → ⊥ }
     ensures settings_taken { Legal example.meanings example.empty unlawful.settings_taken → ⊥ }
+    ensures another_replaced { Legal example.meanings example.unreadable unlawful.another_replaced → ⊥ }
+    ensures settings_fault { Legal example.meanings example.empty unlawful.settings_fault → ⊥ }
+    ensures another_inited { Legal example.meanings example.empty unlawful.another_inited → ⊥ }
+    ensures inited_unreadable { Legal example.meanings example.unreadable unlawful.inited_unreadable → ⊥ }
+    ensures count_of_start { Legal example.meanings example.failed_once unlawful.count_of_start → ⊥ }
+    ensures settings_cleared { Legal example.meanings example.empty unlawful.settings_cleared → ⊥ }
 {}

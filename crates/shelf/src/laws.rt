@@ -8,6 +8,7 @@ ghost use Rattle.hist_journal.specs.Folds.{edition_of, raises_of, value_of};
 ghost use Rattle.hist_journal.specs.Kinds.{is_change};
 ghost use Rattle.hist_journal.specs.Quiet.{Quiet, pending};
 ghost use Rattle.shelf.specs.declared.store.Store.{Store};
+ghost use Rattle.shelf.specs.Decided.{Decided};
 ghost use Rattle.shelf.specs.Images.{IsMainSinceSynced, images, is_synced, kept_front, main_at, unkept};
 ghost use Rattle.shelf.specs.Legal.{Fits, Legal};
 ghost use Rattle.shelf.specs.Meanings.{Meanings};
@@ -30,6 +31,11 @@ pub fn longer_is_legal<V, T, M>()
 pub fn open_is_pending<V, T, M>()
     ensures change { (m : Meanings V T) (s : Store V M) (before : List (EntrySeen V T)) (e : EntrySeen V T) → Fits m s before e → is_change e.kind ≡ true → pending before ≡ Some e.who }
     ensures exactly { (m : Meanings V T) (s : Store V M) (list : List (EntrySeen V T)) (call : CallId) → Legal m s list → (has_open_raise call list ≡ true) ↔ (pending list ≡ Some call) }
+{}
+
+/// Whether a history is lawful is told by a test, for values of which one tells whether they are the same.
+pub fn lawful_has_a_test<V, T, M>()
+    ensures { (same : (a b : V) → Decided (a ≡ b)) (m : Meanings V T) (s : Store V M) (list : List (EntrySeen V T)) → Decided (Legal m s list) }
 {}
 
 /// Freshness: where a quiet prefix of a lawful history has all its raises, nothing behind it changed the value. So whoever

@@ -17,15 +17,15 @@ mod shelf;
 mod shelf_parts;
 mod store;
 
-pub use answer_laws::{causes_by_the_start, causes_stay, updates_stay};
+pub use answer_laws::{causes_by_the_start, causes_have_a_test, causes_stay, updates_stay};
 pub use answers::{AddNodeError, Loaded, PlanMade, Taken, Want};
 pub use examples::{
     ExampleEdit, histories_are_lawful, histories_are_unlawful, histories_come_to,
     stores_have_their_base,
 };
 pub use laws::{
-    images_go_on, images_hold_what_is_synced, lawful_by_the_start, longer_is_legal,
-    open_is_pending, prefix_is_legal, quiet_is_fresh,
+    images_go_on, images_hold_what_is_synced, lawful_by_the_start, lawful_has_a_test,
+    longer_is_legal, open_is_pending, prefix_is_legal, quiet_is_fresh,
 };
 pub use order_laws::{
     calls_end, changes_are_raised, counts_rise, numbers_never_fall, updates_end_once,

@@ -1,7 +1,7 @@
 -- What holds of each element of a list, element by element.
 use Rattle.std.proofs.Common.{⊎_elim, ◌≡◌, List, [], ◌∷◌, ◌++◌, ap, append_assoc, append-nil}
 use Rattle.hist_journal.proofs.ClearingLemmas.{last_or_before, longer}
-use Rattle.script_lang.specs.Each.{Each}
+use Rattle.shelf.specs.Each.{Each}
 
 abbrev head_or : {X : Type 0} → X → List X → X
 head_or x [] = x
