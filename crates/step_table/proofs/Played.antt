@@ -2,6 +2,7 @@
 use Rattle.std.proofs.Common.{◌≡◌, inl, inr, ◌≤◌, ℕ, ◌+◌, ◌==◌, nat_lt, nat_le, ◌-◌, ◌^◌, Bool, true, false, ◌&&◌, not, List, [], ◌∷◌, ◌++◌, Option, Some, None, refl, arith, length, slice_get, slice_set, if◌then◌else◌, Result, Ok, Err}
 use Rattle.std.proofs.lemmas.Bool.Decides.{nat_tests}
 use Rattle.std.proofs.lemmas.Bool.{eqb-true, and_parts, not-true, eqb-false}
+use Rattle.store_traits.specs.Faults.{one_more}
 use Rattle.store_traits.specs.declared.applied.Applied.{Applied}
 use Rattle.store_traits.specs.declared.applied.Applied.TheVariants.{Changed, Refused}
 use Rattle.store_traits.specs.declared.ids.CallId.{CallId}
@@ -9,7 +10,6 @@ use Rattle.store_traits.specs.declared.update_error.UpdateError.{UpdateError}
 use Rattle.store_traits.specs.declared.update_error.UpdateError.TheVariants.{Died, NotDurable, StorageFault}
 use Rattle.file_lock.specs.Owner.{IsAnother, freed_node}
 use Rattle.folder_disk.specs.Contents.{Unsynced, Synced, scratch_bytes, renamed, folder_synced}
-use Rattle.folder_disk.specs.Due.{one_more}
 use Rattle.folder_disk.specs.Due as plan
 use Rattle.folder_disk.specs.declared.call.FolderCall.{FolderCall}
 use Rattle.folder_disk.specs.declared.call.FolderCall.TheVariants.{ReadMain, Create, Append, SyncScratch, Rename, SyncFolder}

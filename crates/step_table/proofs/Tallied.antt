@@ -2,8 +2,9 @@
 use Rattle.std.proofs.Common.{◌≡◌, ◌∙◌, inl, ℕ, ◌-◌, ◌^◌, nat_lt, Bool, true, false, ◌&&◌, not, Option, refl, sym, ap, arith}
 use Rattle.std.proofs.lemmas.Bool.{and_parts, not-true}
 use Rattle.std.proofs.lemmas.Bool.Decides.{nat_tests}
+use Rattle.store_traits.specs.Faults.{one_more}
 use Rattle.folder_disk.specs.declared.call.FolderCall.{FolderCall}
-use Rattle.folder_disk.specs.Due.{Due, one_more, taken_in}
+use Rattle.folder_disk.specs.Due.{Due, taken_in}
 use Rattle.folder_disk.specs.Due as plan
 use Rattle.folder_disk.specs.Tally.{Tallies, Tally}
 
@@ -19,7 +20,7 @@ well_so told asked tally is =
     let parts = and_parts (not (plan.fails asked tally.due)) (nat_lt tally.count (2 ^ 64 - 1)) is in
     let below : nat_lt tally.count (2 ^ 64 - 1) ≡ true = parts.1 in
     record {
-      counts = record { later = omega arith; cause = tt };
+      counts = record { later = omega arith; cause = tt; kept = refl };
       fits = grind (arith, nat_tests, below);
       most = refl;
       due = λ is_told. record { failed = sym (not-true (plan.fails asked tally.due) parts.0); count = refl; due = refl };
@@ -30,7 +31,7 @@ failed_so told asked tally is =
     let parts = and_parts (plan.fails asked tally.due) (nat_lt tally.count (2 ^ 64 - 1)) is in
     let below : nat_lt tally.count (2 ^ 64 - 1) ≡ true = parts.1 in
     record {
-      counts = record { later = grind (arith, nat_tests, below); cause = inl (grind (arith, nat_tests, below)) };
+      counts = record { later = grind (arith, nat_tests, below); cause = inl (grind (arith, nat_tests, below)); kept = tt };
       fits = omega arith;
       most = refl;
       due = λ is_told. record { failed = sym parts.0; count = refl; due = refl };

@@ -1,9 +1,11 @@
 //! The laws of `shelf`, called at the types of its small store, its worked histories, and the worked runs of `step_table`.
+use prefs_edit::Edit;
+use prefs_proto::PrefsCodec;
 use shelf::{
-    ExampleEdit, calls_end, changes_are_raised, counts_rise, histories_are_lawful,
-    histories_are_unlawful, histories_come_to, images_go_on, images_hold_what_is_synced,
-    longer_is_legal, numbers_never_fall, open_is_pending, prefix_is_legal, quiet_is_fresh,
-    stores_have_their_base, updates_end_once,
+    ExampleEdit, calls_end, causes_have_a_test, changes_are_raised, counts_rise,
+    histories_are_lawful, histories_are_unlawful, histories_come_to, images_go_on,
+    images_hold_what_is_synced, lawful_has_a_test, longer_is_legal, numbers_never_fall,
+    open_is_pending, prefix_is_legal, quiet_is_fresh, stores_have_their_base, updates_end_once,
 };
 use step_table::{
     runs_follow_the_table, runs_start_where_a_session_begins, wrong_turns_are_refused,
@@ -17,6 +19,8 @@ fn the_laws_are_those_of_concrete_stores() {
     quiet_is_fresh::<u64, ExampleEdit, ()>();
     images_go_on::<u64, ExampleEdit, ()>();
     images_hold_what_is_synced::<u64, ExampleEdit, ()>();
+    lawful_has_a_test::<u64, ExampleEdit, ()>();
+    causes_have_a_test::<PrefsCodec, Edit, ()>();
 }
 
 #[test]
