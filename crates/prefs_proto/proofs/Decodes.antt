@@ -13,14 +13,14 @@ use Rattle.prefs_proto.specs.declared.decode_error.DecodeError.TheVariants.{Wire
 use Rattle.prefs_proto.specs.declared.read_map.MapFound.{MapFound}
 use Rattle.prefs_proto.specs.Layout.{EntrySeen}
 use Rattle.prefs_proto.specs.Reads.{texts_of_entry, bad_text, long_key, last_value, Reads, IsNotUtf8, IsKeyTooLong, IsValueNotSet, Detail}
-use Rattle.prefs_proto.specs.Found.{MapIs, ValuesSettled}
+use Rattle.prefs_proto.specs.Found.{unfit_place, MapIs, ValuesSettled}
 use Rattle.prefs_proto.specs.Laws.Said.{said_last}
 use Rattle.prefs_proto.specs.Laws.OneReading.{entries_once}
 use Rattle.prefs_proto.proofs.Faults.{entries_not_fault}
 
 -- ---- the answers
 
-pub reads_found : (bytes : List ℕ) (found : MapFound) (pairs : List PrefPair) → MapIs bytes found → found.bad ≡ None → found.long ≡ None → IsMap pairs → HasFirstValues (reverse found.entries) pairs → Reads bytes pairs
+pub reads_found : (bytes : List ℕ) (found : MapFound) (pairs : List PrefPair) → MapIs bytes found → unfit_place found.texts ≡ None → unfit_place found.keys ≡ None → IsMap pairs → HasFirstValues (reverse found.entries) pairs → Reads bytes pairs
 reads_found bytes found pairs h good short is_map values = record {
   entries = h.entries;
   has_entries = h.has_entries;
@@ -30,10 +30,10 @@ reads_found bytes found pairs h good short is_map values = record {
   values = λ name. sym (said_last found.entries h.entries (h.are_found.said_is good short) name) ∙ values name;
 }
 
-pub no_text_found : (bytes : List ℕ) (found : MapFound) (place : ℕ) → MapIs bytes found → found.bad ≡ Some place → IsNotUtf8 bytes place
+pub no_text_found : (bytes : List ℕ) (found : MapFound) (place : ℕ) → MapIs bytes found → unfit_place found.texts ≡ Some place → IsNotUtf8 bytes place
 no_text_found bytes found place h bad = record { entries = h.entries; has_entries = h.has_entries; is_least = sym h.are_found.bad_is ∙ bad }
 
-pub long_key_found : (bytes : List ℕ) (found : MapFound) (place : ℕ) → MapIs bytes found → found.bad ≡ None → found.long ≡ Some place → IsKeyTooLong bytes place
+pub long_key_found : (bytes : List ℕ) (found : MapFound) (place : ℕ) → MapIs bytes found → unfit_place found.texts ≡ None → unfit_place found.keys ≡ Some place → IsKeyTooLong bytes place
 long_key_found bytes found place h good long = record {
   entries = h.entries;
   has_entries = h.has_entries;
@@ -41,7 +41,7 @@ long_key_found bytes found place h good long = record {
   is_least = sym (h.are_found.long_is good) ∙ long;
 }
 
-pub unset_found : (bytes : List ℕ) (found : MapFound) (name : List ℕ) → MapIs bytes found → found.bad ≡ None → found.long ≡ None → model.IsLeastUnset (reverse found.entries) name → IsValueNotSet bytes name
+pub unset_found : (bytes : List ℕ) (found : MapFound) (name : List ℕ) → MapIs bytes found → unfit_place found.texts ≡ None → unfit_place found.keys ≡ None → model.IsLeastUnset (reverse found.entries) name → IsValueNotSet bytes name
 unset_found bytes found name h good short is =
     let last = said_last found.entries h.entries (h.are_found.said_is good short) in
     record {
@@ -55,7 +55,7 @@ unset_found bytes found name h good short is =
       };
     }
 
-pub settled_found : (bytes : List ℕ) (found : MapFound) (r : Result (List PrefPair) DecodeError) → MapIs bytes found → found.bad ≡ None → found.long ≡ None → ValuesSettled found.entries r → MatchResult r (Reads bytes) (Detail bytes)
+pub settled_found : (bytes : List ℕ) (found : MapFound) (r : Result (List PrefPair) DecodeError) → MapIs bytes found → unfit_place found.texts ≡ None → unfit_place found.keys ≡ None → ValuesSettled found.entries r → MatchResult r (Reads bytes) (Detail bytes)
 settled_found bytes found (Ok pairs) h good short is = reads_found bytes found pairs h good short is.0 is.1
 settled_found bytes found (Err (Wire e)) h good short is = absurd is
 settled_found bytes found (Err (NotUtf8 place)) h good short is = absurd is

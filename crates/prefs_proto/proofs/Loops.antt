@@ -12,7 +12,7 @@ use Rattle.prefs_proto.specs.declared.read_map.MapFound.{MapFound}
 use Rattle.prefs_proto.specs.Layout.{TextSeen, SetGives, MemberSeen, ValueGives, ValueFaulty, PartSeen, EntryGives, EntryFaulty, EntrySeen, MapGives, MapFaulty}
 use Rattle.prefs_proto.specs.Entry.{bytes_of_text, last_key, members_of}
 use Rattle.prefs_proto.specs.Reads.{least, bad_text, texts_of_member, texts_of_part}
-use Rattle.prefs_proto.specs.Found.{TextGiven, SetAdded, Drafts, bad_member, MemberGiven, MemberRead, ValueAdded, ValueRead, bad_part, PartGiven, PartRead, EntryIs, EntryRead, AreFound, EntryGiven, EntryAdded, MapIs, MapRead}
+use Rattle.prefs_proto.specs.Found.{TextGiven, SetAdded, Drafts, bad_member, MemberGiven, MemberRead, ValueAdded, ValueRead, bad_part, PartGiven, PartRead, EntryIs, EntryRead, AreFound, unfit_place, EntryGiven, EntryAdded, MapIs, MapRead}
 use Rattle.prefs_proto.proofs.Walk.{Walk, walk_none, walk_more, walk_all, walk_inside}
 use Rattle.prefs_proto.specs.Laws.Places.{none_of_least, bad_text-append, bad_among-append}
 use Rattle.prefs_proto.proofs.Drafts.{drafts_none, drafts_then, members_of-append, last_key-append}
@@ -104,7 +104,7 @@ entry_more at message name next_name draft next reader after f bad more w takes 
       rw (members_of-append w.parts given.parts) (drafts_then (members_of w.parts) (members_of given.parts) Unset draft next (w.added both.0) (given.added both.1));
 }
 
-pub entry_all : (at : ℕ) (message : List ℕ) (reader after : ReaderSeen) (found : EntryFound) → EntryWalk at message found.key found.draft reader found.bad → IsAtEnd reader after → EntryIs at message found
+pub entry_all : (at : ℕ) (message : List ℕ) (reader after : ReaderSeen) (found : EntryFound) → EntryWalk at message found.key found.draft reader (unfit_place found.texts) → IsAtEnd reader after → EntryIs at message found
 entry_all at message reader after found w end = record {
   parts = w.parts;
   is_entry = walk_all EntryGives at message reader after w.parts w.walk end;
@@ -123,9 +123,9 @@ entry_stop at message name next_name draft next reader after f bad NoMemory w ta
 pub record MapWalk (message : List ℕ) (found : MapFound) (reader : ReaderSeen) : Type 0 where
   pub entries : List EntrySeen
   pub walk : Walk MapGives 0 message reader entries
-  pub are_found : AreFound entries found.entries found.bad found.long
+  pub are_found : AreFound entries found
 
-pub map_none : (message : List ℕ) (found : MapFound) → found.entries ≡ [] → found.bad ≡ None → found.long ≡ None → MapWalk message found (start 0 message)
+pub map_none : (message : List ℕ) (found : MapFound) → found.entries ≡ [] → unfit_place found.texts ≡ None → unfit_place found.keys ≡ None → MapWalk message found (start 0 message)
 map_none message found entries bad long = record {
   entries = [];
   walk = walk_none MapGives 0 message;

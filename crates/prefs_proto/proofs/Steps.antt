@@ -13,11 +13,12 @@ use Rattle.prefs_proto.specs.declared.stop.Stop.{Stop}
 use Rattle.prefs_proto.specs.declared.stop.Stop.TheVariants.{Wire, NoMemory}
 use Rattle.prefs_proto.specs.declared.read_entry.EntryFound.{EntryFound}
 use Rattle.prefs_proto.specs.declared.read_map.MapFound.{MapFound}
+use Rattle.prefs_proto.specs.declared.unfit.UnfitAt.{UnfitAt}
 use Rattle.prefs_proto.specs.Message.{bytes_of, Nested, FaultIn}
 use Rattle.prefs_proto.specs.Layout.{texts_from, IsStringSet, StringSetFault, MemberSeen, scalar, text, texts, set_member, members_from, scalar_of, IsValueMessage, ValueFault, PartSeen, key, member, IsEntryMessage, EntrySeen, entry_at}
 use Rattle.prefs_proto.specs.Entry.{key_of, value_of}
 use Rattle.prefs_proto.specs.Reads.{least, bad_text, long_key, texts_of_member, texts_of_part, texts_of_entry}
-use Rattle.prefs_proto.specs.Found.{one_text, TextRead, DraftSetRead, settled, MemberGiven, MemberRead, ValueRead, bad_part, PartGiven, PartRead, EntryIs, bad_entry, entry_said, EntryGiven}
+use Rattle.prefs_proto.specs.Found.{unfit_place, one_text, TextRead, DraftSetRead, settled, MemberGiven, MemberRead, ValueRead, bad_part, PartGiven, PartRead, EntryIs, bad_entry, entry_said, EntryGiven}
 use Rattle.prefs_proto.specs.Laws.Places.{least_none, none_of_least, bad_among-append, bad_among-one, texts_of_members, long_key-append}
 use Rattle.prefs_proto.proofs.Drafts.{drafts_none, drafts_scalar, drafts_text, drafts_texts, settled_back}
 use Rattle.prefs_proto.specs.Laws.OneReading.{plain_members, plain_parts}
@@ -40,8 +41,8 @@ some_not_none x is = cc
 abbrev MemberNested : FieldSeen → Option (List ℕ) → List MemberSeen → Type 0
 MemberNested f bytes members = Nested IsStringSet set_member (plain_members f) f.payload_place bytes members
 
-pub member_set : (f : FieldSeen) (bytes : List ℕ) (old new : Draft) (r : Result (Option ℕ) Stop) → bytes_of 6 f ≡ Some bytes → DraftSetRead f.payload_place bytes old new r → MemberRead f old new r
-member_set f bytes old new (Ok bad) is h = record {
+pub member_set : (f : FieldSeen) (bytes : List ℕ) (old new : Draft) (r : Result (Result (Unit {0}) UnfitAt) Stop) → bytes_of 6 f ≡ Some bytes → DraftSetRead f.payload_place bytes old new r → MemberRead f old new r
+member_set f bytes old new (Ok read) is h = record {
   members = texts h.all ∷ [];
   gives = subst (λ (o : Option (List ℕ)). MemberNested f o (texts h.all ∷ [])) (sym is) (h.all, h.is_set, refl);
   bad_is = h.bad_is ∙ sym (bad_among-one texts_of_member (texts h.all));
@@ -63,12 +64,12 @@ member_text f bytes read old no_set is h = record {
   added = λ good. rw h.0 (drafts_text f.payload_place bytes old);
 }
 
-pub member_no_text : (f : FieldSeen) (bytes : List ℕ) (at : ℕ) (old new : Draft) → bytes_of 6 f ≡ None → bytes_of 5 f ≡ Some bytes → TextRead f.payload_place bytes (Err at) → MemberGiven f old new (Some at)
+pub member_no_text : (f : FieldSeen) (bytes : List ℕ) (at : UnfitAt) (old new : Draft) → bytes_of 6 f ≡ None → bytes_of 5 f ≡ Some bytes → TextRead f.payload_place bytes (Err at) → MemberGiven f old new (Some at.0)
 member_no_text f bytes at old new no_set is h = record {
   members = text (record { place = f.payload_place; bytes = bytes }) ∷ [];
   gives = text_gives f bytes no_set is;
   bad_is = sym (bad_among-one texts_of_member (text (record { place = f.payload_place; bytes = bytes })) ∙ h);
-  added = λ good. absurd (some_not_none at good);
+  added = λ good. absurd (some_not_none at.0 good);
 }
 
 pub member_scalar : (f : FieldSeen) (value : PrefValue) (old : Draft) → bytes_of 6 f ≡ None → bytes_of 5 f ≡ None → Some value ≡ scalar_of f.number f.payload → MemberGiven f old (One value) None
@@ -85,8 +86,8 @@ member_scalar f value old no_set no_text is = record {
 abbrev PartNested : FieldSeen → Option (List ℕ) → List PartSeen → Type 0
 PartNested f bytes parts = Nested IsValueMessage (map member) (plain_parts f) f.payload_place bytes parts
 
-pub part_value : (f : FieldSeen) (bytes : List ℕ) (name : List ℕ) (old new : Draft) (r : Result (Option ℕ) Stop) → bytes_of 2 f ≡ Some bytes → ValueRead f.payload_place bytes old new r → PartRead f name name old new r
-part_value f bytes name old new (Ok bad) is h = record {
+pub part_value : (f : FieldSeen) (bytes : List ℕ) (name : List ℕ) (old new : Draft) (r : Result (Result (Unit {0}) UnfitAt) Stop) → bytes_of 2 f ≡ Some bytes → ValueRead f.payload_place bytes old new r → PartRead f name name old new r
+part_value f bytes name old new (Ok read) is h = record {
   parts = map member h.members;
   gives = subst (λ (o : Option (List ℕ)). PartNested f o (map member h.members)) (sym is) (h.members, h.is_value, refl);
   bad_is = h.bad_is ∙ ap bad_text (sym (texts_of_members h.members));
@@ -110,13 +111,13 @@ part_key f bytes read name old no_value is h = record {
   added = λ good. drafts_none old;
 }
 
-pub part_no_key : (f : FieldSeen) (bytes : List ℕ) (at : ℕ) (name next : List ℕ) (old new : Draft) → bytes_of 2 f ≡ None → bytes_of 1 f ≡ Some bytes → TextRead f.payload_place bytes (Err at) → PartGiven f name next old new (Some at)
+pub part_no_key : (f : FieldSeen) (bytes : List ℕ) (at : UnfitAt) (name next : List ℕ) (old new : Draft) → bytes_of 2 f ≡ None → bytes_of 1 f ≡ Some bytes → TextRead f.payload_place bytes (Err at) → PartGiven f name next old new (Some at.0)
 part_no_key f bytes at name next old new no_value is h = record {
   parts = key (record { place = f.payload_place; bytes = bytes }) ∷ [];
   gives = key_gives f bytes no_value is;
   bad_is = sym (bad_among-one texts_of_part (key (record { place = f.payload_place; bytes = bytes })) ∙ h);
-  key_is = λ good. absurd (some_not_none at good);
-  added = λ good. absurd (some_not_none at good);
+  key_is = λ good. absurd (some_not_none at.0 good);
+  added = λ good. absurd (some_not_none at.0 good);
 }
 
 -- ---- an entry
@@ -155,36 +156,36 @@ said_more earlier e old new name value was is_key is_value pushed =
 pub pushed_as : (old new : List PrefEntry) (name same : List ℕ) (value settled_value : Option PrefValue) → new ≡ push old (with_both name value) → name ≡ same → value ≡ settled_value → new ≡ push old (with_both same settled_value)
 pushed_as old new name same value settled_value is is_key is_value = rw (is_key, is_value) at is
 
-pub entry_added : (f : FieldSeen) (bytes : List ℕ) (found : EntryFound) (old new : MapFound) → bytes_of 1 f ≡ Some bytes → EntryIs f.payload_place bytes found → new.bad ≡ least old.bad found.bad → length found.key ≤ 1024 → new.long ≡ old.long → new.entries ≡ push old.entries (with_both found.key (settled found.draft)) → EntryGiven f old new
+pub entry_added : (f : FieldSeen) (bytes : List ℕ) (found : EntryFound) (old new : MapFound) → bytes_of 1 f ≡ Some bytes → EntryIs f.payload_place bytes found → unfit_place new.texts ≡ least (unfit_place old.texts) (unfit_place found.texts) → length found.key ≤ 1024 → unfit_place new.keys ≡ unfit_place old.keys → new.entries ≡ push old.entries (with_both found.key (settled found.draft)) → EntryGiven f old new
 entry_added f bytes found old new is h bad_is short same pushed =
     let e = entry_of f h.parts in
     record {
       entries = e ∷ [];
       gives = entry_gives f bytes h.parts is h.is_entry;
       added = λ earlier a. record {
-        bad_is = bad_more earlier e old.bad found.bad new.bad a.bad_is h.bad_is bad_is;
+        bad_is = bad_more earlier e (unfit_place old.texts) (unfit_place found.texts) (unfit_place new.texts) a.bad_is h.bad_is bad_is;
         long_is = λ good.
-            let both = none_of_least old.bad found.bad (sym bad_is ∙ good) in
+            let both = none_of_least (unfit_place old.texts) (unfit_place found.texts) (sym bad_is ∙ good) in
             let fits : length (key_of e) ≤ 1024 = subst (λ (n : List ℕ). length n ≤ 1024) (h.key_is both.1) short in
             same ∙ a.long_is both.0 ∙ sym (least_none (long_key earlier)) ∙ ap (least (long_key earlier)) (sym (short_one e fits)) ∙ sym (long_key-append earlier (e ∷ []));
         said_is = λ good none_long.
-            let both = none_of_least old.bad found.bad (sym bad_is ∙ good) in
+            let both = none_of_least (unfit_place old.texts) (unfit_place found.texts) (sym bad_is ∙ good) in
             said_more earlier e old.entries new.entries found.key (settled found.draft) (a.said_is both.0 (sym same ∙ none_long)) (h.key_is both.1) (ap settled (h.draft_is both.1) ∙ settled_back _) pushed;
       };
     }
 
-pub entry_long : (f : FieldSeen) (bytes : List ℕ) (found : EntryFound) (old new : MapFound) → bytes_of 1 f ≡ Some bytes → EntryIs f.payload_place bytes found → new.bad ≡ least old.bad found.bad → 1024 < length found.key → new.long ≡ least old.long (Some f.place) → EntryGiven f old new
+pub entry_long : (f : FieldSeen) (bytes : List ℕ) (found : EntryFound) (old new : MapFound) → bytes_of 1 f ≡ Some bytes → EntryIs f.payload_place bytes found → unfit_place new.texts ≡ least (unfit_place old.texts) (unfit_place found.texts) → 1024 < length found.key → unfit_place new.keys ≡ least (unfit_place old.keys) (Some f.place) → EntryGiven f old new
 entry_long f bytes found old new is h bad_is long sum =
     let e = entry_of f h.parts in
     record {
       entries = e ∷ [];
       gives = entry_gives f bytes h.parts is h.is_entry;
       added = λ earlier a. record {
-        bad_is = bad_more earlier e old.bad found.bad new.bad a.bad_is h.bad_is bad_is;
+        bad_is = bad_more earlier e (unfit_place old.texts) (unfit_place found.texts) (unfit_place new.texts) a.bad_is h.bad_is bad_is;
         long_is = λ good.
-            let both = none_of_least old.bad found.bad (sym bad_is ∙ good) in
+            let both = none_of_least (unfit_place old.texts) (unfit_place found.texts) (sym bad_is ∙ good) in
             let exceeds : 1024 < length (key_of e) = subst (λ (n : List ℕ). 1024 < length n) (h.key_is both.1) long in
             sum ∙ ap (λ (b : Option ℕ). least b (Some f.place)) (a.long_is both.0) ∙ ap (least (long_key earlier)) (sym (long_one e exceeds)) ∙ sym (long_key-append earlier (e ∷ []));
-        said_is = λ good none_long. absurd (some_not_none f.place (none_of_least old.long (Some f.place) (sym sum ∙ none_long)).1);
+        said_is = λ good none_long. absurd (some_not_none f.place (none_of_least (unfit_place old.keys) (Some f.place) (sym sum ∙ none_long)).1);
       };
     }

@@ -3,6 +3,7 @@ ghost use Rattle.prefs_proto.specs.Found.{DraftSetRead, run_in, settled};
 
 use crate::read_set::read_set;
 use crate::stop::Stop;
+use crate::unfit::UnfitAt;
 use prefs_model::{Entries, PrefText, PrefValue, TextSet};
 use std::alloc::{AllocError, Global};
 
@@ -17,21 +18,21 @@ pub(crate) enum Draft {
     Run(Entries<PrefText>),
 }
 
-/// Joins a message `StringSet`, whose first byte has the place. Answers the least place of a text that is
+/// Joins a message `StringSet`, whose first byte has the place, or answers the least place of a text that is
 /// not UTF-8.
 pub(crate) fn add_set(
     alloc: Global,
     bytes: &[u8],
     place: u64,
     draft: &mut Draft,
-) -> Result<Option<u64>, Stop>
+) -> Result<Result<(), UnfitAt>, Stop>
     requires { place + length bytes.now < 2 ^ 64 }
     ensures { DraftSetRead place bytes.now draft.old draft.new result }
 {
     let mut texts = into_run(alloc, std::mem::replace(draft, Draft::Unset));
-    let bad = read_set(alloc, bytes, place, &mut texts)?;
+    let read = read_set(alloc, bytes, place, &mut texts)?;
     *draft = Draft::Run(texts);
-    Ok(bad)
+    Ok(read)
 }
 
 /// The texts that a string set is joined with.

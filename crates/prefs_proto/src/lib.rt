@@ -20,6 +20,7 @@ mod read_value;
 mod set;
 mod stop;
 mod tag;
+mod unfit;
 mod value;
 
 pub use decode_error::DecodeError;

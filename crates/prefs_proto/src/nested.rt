@@ -1,7 +1,6 @@
 ghost use Rattle.std.specs.Prelude.{◌≡◌, ◌==◌, MatchOption, None, Some};
 ghost use Rattle.wire_codec.specs.Fields.{field_seen};
 ghost use Rattle.prefs_proto.specs.Message.{bytes_of};
-ghost use Rattle.prefs_proto.specs.Reads.{least};
 
 use wire_codec::{Field, Payload};
 
@@ -19,17 +18,5 @@ pub(crate) fn bytes_in<'a>(field: &Field<'a>, number: u32) -> Option<&'a [u8]>
             }
         }
         _ => None,
-    }
-}
-
-/// The lesser of two places, where there are two.
-#[inline]
-pub(crate) fn least_of(a: Option<u64>, b: Option<u64>) -> Option<u64>
-    ensures { result ≡ least a b }
-{
-    match (a, b) {
-        (None, other) => other,
-        (Some(place), None) => Some(place),
-        (Some(place), Some(other)) => Some(place.min(other)),
     }
 }

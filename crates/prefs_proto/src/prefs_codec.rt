@@ -10,6 +10,7 @@ use crate::decode_error::DecodeError;
 use crate::map_text::{text_len, text_of};
 use crate::read_map::{MapFound, read_map};
 use crate::stop::Stop;
+use crate::unfit::UnfitAt;
 use prefs_model::{Entries, PrefEntry, PrefMap};
 use std::alloc::{AllocError, Global};
 use store_traits::{Codec, Decoded, FileBytes};
@@ -29,11 +30,15 @@ impl PrefsCodec {
             Err(Stop::Wire(e)) => return Err(DecodeError::Wire(e)),
             Err(Stop::NoMemory) => return Err(DecodeError::NoMemory),
         };
-        let MapFound { entries, bad, long } = found;
-        if let Some(place) = bad {
+        let MapFound {
+            entries,
+            texts,
+            keys,
+        } = found;
+        if let Err(UnfitAt(place)) = texts {
             return Err(DecodeError::NotUtf8 { place });
         }
-        if let Some(place) = long {
+        if let Err(UnfitAt(place)) = keys {
             return Err(DecodeError::KeyTooLong { place });
         }
         settle(alloc, entries)

@@ -5,21 +5,22 @@ ghost use Rattle.wire_codec.specs.Reader.{payload_length};
 ghost use Rattle.prefs_proto.specs.Found.{EntryRead, PartRead};
 
 use crate::draft::Draft;
-use crate::nested::{bytes_in, least_of};
+use crate::nested::bytes_in;
 use crate::read_text::read_text;
 use crate::read_value::read_value;
 use crate::stop::Stop;
+use crate::unfit::{UnfitAt, first_of};
 use prefs_model::PrefText;
 use std::alloc::Global;
 use wire_codec::{Field, WireReader};
 
-/// An entry. Where a text is `bad`, what else is found of it means nothing.
+/// An entry. Where a text is not UTF-8, what else is found of it means nothing.
 #[derive(Drop)]
 pub(crate) struct EntryFound {
     pub(crate) key: PrefText,
     pub(crate) draft: Draft,
-    /// The least place of a text that is not UTF-8.
-    pub(crate) bad: Option<u64>,
+    /// Whether its texts are UTF-8, or the least place of one that is not.
+    pub(crate) texts: Result<(), UnfitAt>,
 }
 
 /// Reads an entry, whose first byte has the place.
@@ -30,26 +31,27 @@ pub(crate) fn read_entry(alloc: Global, bytes: &[u8], place: u64) -> Result<Entr
     let mut reader = WireReader::new(bytes, place);
     let mut key = PrefText::new(String::new(alloc));
     let mut draft = Draft::Unset;
-    let mut bad = None;
+    let mut texts = Ok(());
     loop {
         match reader.next_field() {
             Ok(Some(field)) => {
                 let new = add_part(alloc, &field, &mut key, &mut draft)?;
-                bad = least_of(bad, new);
+                texts = first_of(texts, new);
             }
-            Ok(None) => return Ok(EntryFound { key, draft, bad }),
+            Ok(None) => return Ok(EntryFound { key, draft, texts }),
             Err(e) => return Err(Stop::Wire(e)),
         }
     }
 }
 
-/// Takes the key or the part of the value that a field is, if it is one.
+/// Takes the key or the part of the value that a field is, if it is one, or answers the least place of a
+/// text that is not UTF-8.
 fn add_part(
     alloc: Global,
     field: &Field<'_>,
     key: &mut PrefText,
     draft: &mut Draft,
-) -> Result<Option<u64>, Stop>
+) -> Result<Result<(), UnfitAt>, Stop>
     requires { field.now.payload_place + payload_length (payload_seen field.now.payload) < 2 ^ 64 }
     ensures { PartRead (field_seen field.now) key.old key.new draft.old draft.new result }
 {
@@ -61,10 +63,10 @@ fn add_part(
         return match read_text(alloc, text, place)? {
             Ok(text) => {
                 *key = text;
-                Ok(None)
+                Ok(Ok(()))
             }
-            Err(place) => Ok(Some(place)),
+            Err(at) => Ok(Err(at)),
         };
     }
-    Ok(None)
+    Ok(Ok(()))
 }

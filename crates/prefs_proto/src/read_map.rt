@@ -5,21 +5,22 @@ ghost use Rattle.wire_codec.specs.Reader.{payload_length};
 ghost use Rattle.prefs_proto.specs.Found.{MapRead, EntryAdded};
 
 use crate::draft::into_value;
-use crate::nested::{bytes_in, least_of};
+use crate::nested::bytes_in;
 use crate::read_entry::{EntryFound, read_entry};
 use crate::stop::Stop;
+use crate::unfit::{UnfitAt, first_of};
 use prefs_model::{Entries, PrefEntry, PrefKey};
 use std::alloc::Global;
 use wire_codec::{Field, WireReader};
 
-/// The entries of a file. Where a text is `bad` or a key `long`, what else is found means nothing.
+/// The entries of a file. Where a text is not UTF-8 or a key too long, what else is found means nothing.
 #[derive(Drop)]
 pub(crate) struct MapFound {
     pub(crate) entries: Entries<PrefEntry>,
-    /// The least place of a text that is not UTF-8.
-    pub(crate) bad: Option<u64>,
-    /// The least place of an entry whose key is too long.
-    pub(crate) long: Option<u64>,
+    /// Whether all texts are UTF-8, or the least place of one that is not.
+    pub(crate) texts: Result<(), UnfitAt>,
+    /// Whether all keys are short enough, or the least place of an entry whose key is too long.
+    pub(crate) keys: Result<(), UnfitAt>,
 }
 
 /// Reads the entries of a file.
@@ -30,8 +31,8 @@ pub(crate) fn read_map(alloc: Global, bytes: &[u8]) -> Result<MapFound, Stop>
     let mut reader = WireReader::new(bytes, 0);
     let mut found = MapFound {
         entries: Entries::new(alloc),
-        bad: None,
-        long: None,
+        texts: Ok(()),
+        keys: Ok(()),
     };
     loop {
         match reader.next_field() {
@@ -50,14 +51,14 @@ fn add_entry(alloc: Global, field: &Field<'_>, found: &mut MapFound) -> Result<(
     let Some(bytes) = bytes_in(field, 1) else {
         return Ok(());
     };
-    let EntryFound { key, draft, bad } = read_entry(alloc, bytes, field.payload_place())?;
-    found.bad = least_of(found.bad, bad);
+    let EntryFound { key, draft, texts } = read_entry(alloc, bytes, field.payload_place())?;
+    found.texts = first_of(found.texts, texts);
     match PrefKey::new(key.into_string()) {
         Ok(key) => {
             let value = into_value(draft)?;
             found.entries.push(PrefEntry { key, value })?;
         }
-        Err(_) => found.long = least_of(found.long, Some(field.place)),
+        Err(_) => found.keys = first_of(found.keys, Err(UnfitAt(field.place))),
     }
     Ok(())
 }

@@ -1,6 +1,7 @@
-ghost use Rattle.std.specs.Prelude.{◌≡◌, ◌∷◌, ◌++◌, [], IfOk, None};
-ghost use Rattle.prefs_proto.specs.Found.{TextRead, TextAdded};
+ghost use Rattle.std.specs.Prelude.{IfOk};
+ghost use Rattle.prefs_proto.specs.Found.{TextRead, TextAdded, unfit_place};
 
+use crate::unfit::UnfitAt;
 use prefs_model::{Entries, PrefText};
 use std::alloc::{AllocError, Global};
 
@@ -9,29 +10,29 @@ pub(crate) fn read_text(
     alloc: Global,
     bytes: &[u8],
     place: u64,
-) -> Result<Result<PrefText, u64>, AllocError>
+) -> Result<Result<PrefText, UnfitAt>, AllocError>
     ensures { IfOk result (TextRead place bytes.now) }
 {
     let Ok(text) = std::str::from_utf8(bytes) else {
-        return Ok(Err(place));
+        return Ok(Err(UnfitAt(place)));
     };
     Ok(Ok(PrefText::new(String::from_str(alloc, text)?)))
 }
 
-/// Adds the bytes to the texts, or answers their place where they are no text.
+/// Adds the bytes to the texts, or answers their place where they are none.
 pub(crate) fn add_text(
     alloc: Global,
     bytes: &[u8],
     place: u64,
     texts: &mut Entries<PrefText>,
-) -> Result<Option<u64>, AllocError>
-    ensures { IfOk result (TextAdded place bytes.now texts.old texts.new) }
+) -> Result<Result<(), UnfitAt>, AllocError>
+    ensures { IfOk result (λ read. TextAdded place bytes.now texts.old texts.new (unfit_place read)) }
 {
     match read_text(alloc, bytes, place)? {
         Ok(text) => {
             texts.push(text)?;
-            Ok(None)
+            Ok(Ok(()))
         }
-        Err(place) => Ok(Some(place)),
+        Err(at) => Ok(Err(at)),
     }
 }

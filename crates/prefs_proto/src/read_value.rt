@@ -6,40 +6,45 @@ ghost use Rattle.prefs_proto.specs.Layout.{scalar_of};
 ghost use Rattle.prefs_proto.specs.Found.{ValueRead, MemberRead};
 
 use crate::draft::{Draft, add_set};
-use crate::nested::{bytes_in, least_of};
+use crate::nested::bytes_in;
 use crate::read_text::read_text;
 use crate::stop::Stop;
+use crate::unfit::{UnfitAt, first_of};
 use prefs_model::PrefValue;
 use std::alloc::Global;
 use wire_codec::{Field, Payload, WireReader};
 
-/// Adds the members of a message `Value`, whose first byte has the place. Answers the least place of a
+/// Adds the members of a message `Value`, whose first byte has the place, or answers the least place of a
 /// text that is not UTF-8.
 pub(crate) fn read_value(
     alloc: Global,
     bytes: &[u8],
     place: u64,
     draft: &mut Draft,
-) -> Result<Option<u64>, Stop>
+) -> Result<Result<(), UnfitAt>, Stop>
     requires { place + length bytes.now < 2 ^ 64 }
     ensures { ValueRead place bytes.now draft.old draft.new result }
 {
     let mut reader = WireReader::new(bytes, place);
-    let mut bad = None;
+    let mut read = Ok(());
     loop {
         match reader.next_field() {
             Ok(Some(field)) => {
                 let new = add_member(alloc, &field, draft)?;
-                bad = least_of(bad, new);
+                read = first_of(read, new);
             }
-            Ok(None) => return Ok(bad),
+            Ok(None) => return Ok(read),
             Err(e) => return Err(Stop::Wire(e)),
         }
     }
 }
 
 /// Adds the member that a field is, if it is one.
-fn add_member(alloc: Global, field: &Field<'_>, draft: &mut Draft) -> Result<Option<u64>, Stop>
+fn add_member(
+    alloc: Global,
+    field: &Field<'_>,
+    draft: &mut Draft,
+) -> Result<Result<(), UnfitAt>, Stop>
     requires { field.now.payload_place + payload_length (payload_seen field.now.payload) < 2 ^ 64 }
     ensures { MemberRead (field_seen field.now) draft.old draft.new result }
 {
@@ -51,15 +56,15 @@ fn add_member(alloc: Global, field: &Field<'_>, draft: &mut Draft) -> Result<Opt
         return match read_text(alloc, text, place)? {
             Ok(text) => {
                 *draft = Draft::One(PrefValue::Text(text));
-                Ok(None)
+                Ok(Ok(()))
             }
-            Err(place) => Ok(Some(place)),
+            Err(at) => Ok(Err(at)),
         };
     }
     if let Some(value) = scalar_in(field.number, field.payload) {
         *draft = Draft::One(value);
     }
-    Ok(None)
+    Ok(Ok(()))
 }
 
 /// A member that is no text and no set. Of an `int32` the low 32 bits count.

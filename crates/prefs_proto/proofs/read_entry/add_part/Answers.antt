@@ -15,4 +15,4 @@ returns-in-Ok c =
 pub returns-in-Err : goal.returns-in-Err
 returns-in-Err c =
     let read = rw (c.payload_place-place.ensures, c.in-Err.is) at c.in_ok-text.ensures in
-    part_no_key (field_seen c.args.field.now) c.in-Some-bytes_in.text.now c.in-Err.place c.args.key.now c.args.key.now c.args.draft.now c.args.draft.now c.in_default.ensures c.in-Some-bytes_in.ensures read
+    part_no_key (field_seen c.args.field.now) c.in-Some-bytes_in.text.now c.in-Err.at c.args.key.now c.args.key.now c.args.draft.now c.args.draft.now c.in_default.ensures c.in-Some-bytes_in.ensures read

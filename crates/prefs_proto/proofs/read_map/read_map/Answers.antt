@@ -1,4 +1,4 @@
-use Rattle.std.proofs.Common.{refl, None}
+use Rattle.std.proofs.Common.{refl, Ok}
 use Rattle.std.proofs.lemmas.Result.{err_from_is_err_and}
 use Rattle.wire_codec.specs.Fields.{field_seen}
 use Rattle.wire_codec.proofs.Walk.{takes_shorter}
@@ -6,7 +6,7 @@ use Rattle.prefs_proto.proofs.Loops.{map_none, map_more, map_stop}
 use Rattle.prefs_proto.proofs.read_map.read_map.Goals as goal
 
 pub loop-field-init : goal.loop-field-init
-loop-field-init c = rw c.new-reader.ensures (map_none c.args.bytes.now (record { entries = c.new.result; bad = None; long = None }) c.new.ensures refl refl)
+loop-field-init c = rw c.new-reader.ensures (map_none c.args.bytes.now (record { entries = c.new.result; texts = Ok tt; keys = Ok tt }) c.new.ensures refl refl)
 
 pub loop-field-smaller : goal.loop-field-smaller
 loop-field-smaller c =

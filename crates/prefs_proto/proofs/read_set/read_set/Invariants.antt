@@ -1,9 +1,10 @@
 use Rattle.std.proofs.Common.{length}
+use Rattle.prefs_proto.specs.Found.{unfit_place}
 use Rattle.prefs_proto.proofs.Loops.{SetWalk}
 use Rattle.prefs_proto.proofs.read_set.read_set.Given as goal
 
 abbrev pub invariant-loop-field : goal.invariant-loop-field
-invariant-loop-field l = SetWalk l.fn.place l.fn.bytes l.fn.texts l.texts l.reader l.bad
+invariant-loop-field l = SetWalk l.fn.place l.fn.bytes l.fn.texts l.texts l.reader (unfit_place l.read)
 
 abbrev pub decreases-loop-field : goal.decreases-loop-field
 decreases-loop-field l = length l.reader.rest

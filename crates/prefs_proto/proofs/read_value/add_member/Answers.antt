@@ -15,7 +15,7 @@ returns-in-Ok c =
 pub returns-in-Err : goal.returns-in-Err
 returns-in-Err c =
     let read = rw (c.payload_place-place.ensures, c.in-Err.is) at c.in_ok-text.ensures in
-    member_no_text (field_seen c.args.field.now) c.in-Some-bytes_in.text.now c.in-Err.place c.args.draft.now c.args.draft.now c.in_default.ensures c.in-Some-bytes_in.ensures read
+    member_no_text (field_seen c.args.field.now) c.in-Some-bytes_in.text.now c.in-Err.at c.args.draft.now c.args.draft.now c.in_default.ensures c.in-Some-bytes_in.ensures read
 
 pub returns-in-Some-scalar_in : goal.returns-in-Some-scalar_in
 returns-in-Some-scalar_in c =
