@@ -222,3 +222,10 @@ fn no_settings(rt: HostRuntime) {
         Some(true)
     );
 }
+
+fn is_shared_by_threads<T: Send + Sync>() {}
+
+#[test]
+fn the_codec_crosses_threads() {
+    is_shared_by_threads::<PrefsCodec>();
+}
