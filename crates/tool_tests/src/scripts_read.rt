@@ -4,75 +4,13 @@ use script_lang::{Act, Mode, parse_script};
 use std::alloc::{AllocError, Global};
 use store_traits::{ClientId, NodeId};
 
-/// What is told of a script that has a faulty line, which is the first one with its least fault; a bar; and the script.
-const FAULTY: [&str; 60] = [
-    // One of each.
+/// What is told of a script that has a faulty line, one of each kind; a bar; and the script.
+const FAULTY: [&str; 5] = [
     "line 1: an unknown word|jump",
     "line 1: a bad value|node",
     "line 3: an unknown name|node n1\nclient a on n1\nb update clear",
     "line 2: the name is taken|node n1\nnode n1",
     "line 4: the line is in a wrong place|node n1\nclient a on n1\na update clear\nnode n2",
-    // Words in a place for one of a few.
-    "line 1: an unknown word|int n1",
-    "line 1: an unknown word|\"\\ud800\" @n1 9",
-    "line 1: an unknown word|flow",
-    "line 1: an unknown word| node n1",
-    "line 1: an unknown word|\tnode n1",
-    "line 3: an unknown word|node n1\nclient c1 on n1\nc1 {}",
-    "line 3: an unknown word|node n1\nclient c1 on n1\nc1 toggle \"x\"",
-    "line 3: an unknown word|node n1\nclient c1 on n1\nc1 update read \"s\"",
-    "line 3: an unknown word|node n1\nclient c1 on n1\nc1 update set \"a\" number 1",
-    "line 3: an unknown word|node n1\nclient c1 on n1\nc1 update many clear ; jump",
-    "line 1: an unknown word|zz jump",
-    "line 1: an unknown word|zz update jump",
-    "line 1: an unknown word|A update clear",
-    // Lines and calls that are not understood yet.
-    "line 1: an unknown word|handler empty",
-    "line 1: an unknown word|stop update clear",
-    "line 3: an unknown word|node n1\nclient a on n1\na read",
-    "line 1: an unknown word|read read",
-    // Values.
-    "line 1: a bad value|file",
-    "line 1: a bad value|file none none",
-    "line 1: a bad value|file 0A",
-    "line 1: a bad value|file 0a0",
-    "line 1: a bad value|file \"\"",
-    "line 1: a bad value|history 0",
-    "line 1: a bad value|history 100001",
-    "line 1: a bad value|history 07",
-    "line 1: a bad value|history 7 ",
-    "line 1: a bad value|history 7\r",
-    "line 1: a bad value|node 1n",
-    "line 1: a bad value|node abcdefghijklmnopq",
-    "line 1: a bad value|node read_main",
-    "line 2: a bad value|node n1\nclient c1 in n1",
-    "line 2: a bad value|node n1\nclient c1 on n1 1",
-    "line 2: a bad value|node n1\nclient {} on n1",
-    "line 1: a bad value|go zz 1001",
-    "line 1: a bad value|go go c3 3",
-    "line 3: a bad value|node n1\nclient c2 on n1\ngo c2 \"\\u0041\"",
-    "line 3: a bad value|node n1\nclient c1 on n1\nc1 update",
-    "line 3: a bad value|node n1\nclient c1 on n1\nc1 update insert \"k\" x",
-    "line 3: a bad value|node n1\nclient c1 on n1\nc1 update many clear",
-    "line 1: a bad value|zz update addint \"k\" 2147483648",
-    // Names.
-    "line 1: an unknown name|client c1 on n1",
-    "line 2: an unknown name|node n1\nclient c1 on @n1",
-    "line 3: an unknown name|node n1\nclient c1 on n1\nclient c2 on c1",
-    "line 3: an unknown name|node n1\nclient c1 on n1\ngo @n1 1",
-    "line 3: an unknown name|node n1\nclient c1 on n1\ngo int 1",
-    "line 1: an unknown name|update update clear",
-    "line 2: the name is taken|node n1\nclient n1 on n1",
-    "line 1: the name is taken|node stop",
-    "line 2: the name is taken|node n1\nclient update on n1",
-    "line 2: an unknown name|node n1\nclient stop on n2",
-    // Places.
-    "line 2: the line is in a wrong place|node n1\nhistory 5",
-    "line 2: the line is in a wrong place|file none\nfile empty",
-    "line 4: the line is in a wrong place|node n1\nclient a on n1\ngo a 1\nclient b on n1",
-    "line 4: the name is taken|node n1\nclient a on n1\ngo a 1\nnode n1",
-    // The first faulty line is told.
-    "line 4: the name is taken|node n1\n# a comment\n\nnode n1\njump",
 ];
 
 /// Each of these is one.
