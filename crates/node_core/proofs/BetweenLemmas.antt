@@ -9,13 +9,14 @@ use Rattle.hist_journal.specs.Quiet.{pending}
 use Rattle.folder_disk.specs.Contents.{Contents}
 use Rattle.shelf.specs.declared.store.Store.{Store}
 use Rattle.shelf.specs.CallOrder.{is_later}
-use Rattle.step_table.specs.Calls.{At, Call, First, Migrating, Finishing, Raising, Creating, Appending, SyncingScratch, Renaming, SyncingFolder, Gone, Changed, Kept, Plan}
+use Rattle.step_table.specs.Calls.{At, Call, First, Migrating, Finishing, Raising, Writing, Creating, Appending, SyncingScratch, Renaming, SyncingFolder, Gone, Changed, Kept, Plan}
 use Rattle.shelf.specs.Deaths.{has_died}
 use Rattle.shelf.specs.Entries.{is_any}
 use Rattle.shelf.specs.Legal.{value_at}
 use Rattle.shelf.specs.Meanwhile.{NoDeathOf, NoneOf}
 use Rattle.shelf.specs.Rules.{Rules}
 use Rattle.step_table.specs.World.{World}
+use Rattle.shelf.proofs.LastRaises.{ends_in_raise-others}
 use Rattle.shelf.proofs.Bools.{never}
 use Rattle.shelf.proofs.MeanwhileLemmas.{no_death, own, ready, value}
 use Rattle.shelf.proofs.PendingMeanwhile.{pending_stays, pending_was}
@@ -28,9 +29,8 @@ use Rattle.node_core.proofs.KeepingOn.{due_on}
 module _ {V T : Type 0} where
   -- a call whose Raise is open owns the lock
   pub raised_holds : (at : At V T) → is_raised at ≡ true → is_holding at ≡ true
-  raised_holds (First edit) is = never is
-  raised_holds Gone is = never is
-  raised_holds other is = refl
+  raised_holds (Writing stage plan) is = refl
+  raised_holds other is = never is
 
   -- its earliest turn is still past where entries came
   still_began : (since : Option ℕ) (list more : List (EntrySeen V T)) → IfSome since (λ entries. entries ≤ length list) → IfSome since (λ entries. entries ≤ length (list ++ more))
@@ -73,19 +73,19 @@ module _ {V T M : Type 0} (r : Rules V T) (s : Store V M) where
     still_in_scratch plan it = record { due = due_on r s list list_now plan same it.due; scratch = scratch ∙ it.scratch }
 
     same_contents : (at : At V T) → KnowsContents r s at folder list → KnowsContents r s at folder_now list_now
-    same_contents (Migrating edit value) it = same ∙ it
-    same_contents (Finishing edit) it = record { value = it.value; held = same ∙ it.held }
+    same_contents (Migrating ask value) it = same ∙ it
+    same_contents (Finishing ask) it = record { value = it.value; held = same ∙ it.held }
     same_contents (Raising plan) it = due_on r s list list_now plan same it
-    same_contents (Creating plan) it = due_on r s list list_now plan same it
-    same_contents (Appending plan) it = still_in_scratch plan it
-    same_contents (SyncingScratch plan) it = still_in_scratch plan it
-    same_contents (Renaming plan) it = record { due = due_on r s list list_now plan same it.due; scratch = scratch ∙ it.scratch }
+    same_contents (Writing Creating plan) it = due_on r s list list_now plan same it
+    same_contents (Writing Appending plan) it = still_in_scratch plan it
+    same_contents (Writing SyncingScratch plan) it = still_in_scratch plan it
+    same_contents (Writing Renaming plan) it = record { due = due_on r s list list_now plan same it.due; scratch = scratch ∙ it.scratch }
     same_contents (SyncingFolder (Kept edit)) it = rw same it
     same_contents other it = tt
 
   -- a call that owns nothing knows nothing of contents
   nothing_known : (at : At V T) (folder : Contents) (list : List (EntrySeen V T)) → is_holding at ≡ false → KnowsContents r s at folder list
-  nothing_known (First edit) folder list is = tt
+  nothing_known (First ask) folder list is = tt
   nothing_known Gone folder list is = tt
   nothing_known other folder list is = never (sym is)
 
@@ -103,7 +103,6 @@ module _ {V T M : Type 0} (r : Rules V T) (s : Store V M) where
         let facts = owner_kept is in
         record {
           owns = facts.1.owner ∙ h.owns;
-          room = h.room;
           ready = rw b.grew (ready c.id.node last.history b.more facts.1.outer facts.0 ∙ h.ready);
           begun = h.begun;
         }
@@ -129,6 +128,7 @@ module _ {V T M : Type 0} (r : Rules V T) (s : Store V M) where
           numbers = rw b.grew (list_any-append (is_later c.id) last.history b.more ∙ rw (k.numbers, b.numbers) refl);
           entries = rw b.grew (same_entries c c.at last.history b.more b.others k.entries);
           plan = k.plan;
+          last = rw b.grew (k.last ∙ sym (ends_in_raise-others c.id false last.history b.more b.others));
           raised = (still_raised, λ is. k.raised.1 (pending_was c.id last.history b.more b.others (rw b.grew at is)));
           holds = still_holds;
           contents = λ told. still_known (is_holding c.at) refl told;

@@ -1,115 +1,95 @@
--- An error has its cause in the history.
-use Rattle.std.proofs.Common.{◌≡◌, ◌∙◌, inl, inr, ℕ, Bool, true, false, IsTrue, List, [], append-nil, refl, sym, ap, arith, Result, Err}
+-- What a call is answered shows in the history: its update is there and synced, or the error has its cause.
+use Rattle.std.proofs.Common.{◌≡◌, ◌∙◌, inl, inr, ℕ, Bool, true, false, IsTrue, List, [], ◌∷◌, ◌++◌, append-nil, refl, sym, ap, arith}
 use Rattle.store_traits.specs.declared.update_error.UpdateError.{UpdateError}
 use Rattle.store_traits.specs.declared.update_error.UpdateError.TheVariants as error
 use Rattle.store_traits.specs.declared.ids.CallId.{CallId}
-use Rattle.folder_disk.specs.declared.call.FolderCall.{FolderCall}
-use Rattle.folder_disk.specs.Contents.{Contents}
+use Rattle.hist_journal.specs.declared.device.Device.TheVariants.{Folder}
 use Rattle.hist_journal.specs.declared.seen.BaseSeen.TheVariants.{Held, Corrupt, TooLong}
 use Rattle.hist_journal.specs.declared.seen.EntrySeen.{EntrySeen}
+use Rattle.hist_journal.specs.declared.seen.KindSeen.TheVariants.{Fault}
 use Rattle.hist_journal.specs.Folds.{edition_of}
 use Rattle.shelf.specs.declared.store.Store.{Store}
-use Rattle.shelf.specs.Base.{ReadsAs}
-use Rattle.shelf.specs.Causes.{HasCause, IsFaulted, IsRefused, IsSince, IsTooLong}
-use Rattle.shelf.specs.Legal.{value_at}
+use Rattle.shelf.specs.Acknowledged.{IsUpdated}
+use Rattle.shelf.specs.Causes.{HasCause, IsRefused, IsSince, IsTooLong}
+use Rattle.shelf.specs.Endings.{synced_kinds}
+use Rattle.shelf.specs.Entries.{with_entries}
+use Rattle.shelf.specs.PastBounds.{IsFull}
 use Rattle.shelf.specs.Places.{HasFront}
 use Rattle.shelf.specs.Rules.{Rules}
-use Rattle.shelf.specs.PastBounds.{IsFull}
-use Rattle.step_table.specs.ApplyRow.{Applies}
-use Rattle.step_table.specs.Calls.{At, First, ReadingFirst, Migrating, Reading, Creating, Appending, SyncingScratch, Renaming, SyncingFolder, Changed, Kept, is_gone}
-use Rattle.step_table.specs.Effects.{Fails, next_place}
-use Rattle.step_table.specs.LockRow.{LockRow}
+use Rattle.step_table.specs.Calls.{At, SyncingFolder, Ending, Changed, Kept, Reply, Updated, Failed, is_gone}
+use Rattle.step_table.specs.Effects.{Effect, all_kinds, gave_by}
+use Rattle.step_table.specs.Rows.{Row, kept_edit, told_place, full, read_fails, too_long, unreadable, refuses, past_limit, write_fails, acknowledges, sync_fails}
+use Rattle.step_table.specs.Turn.{AllowedBy, Turn, has_died_by, dies_now}
+use Rattle.step_table.specs.World.{World, Turned, begin, next_place}
 use Rattle.step_table.specs.declared.progress.Progress.{Progress}
 use Rattle.step_table.specs.declared.progress.Progress.TheVariants.{Ended}
-use Rattle.step_table.specs.ReadRows.{ReadRow, ToMigrations}
-use Rattle.step_table.specs.Turn.{EndsDead, EndsDying, Row, Turn, TurnBy, begin, has_died_by, dies_now}
-use Rattle.step_table.specs.World.{World, Turned}
-use Rattle.node_core.specs.Knows.{Knows}
-use Rattle.node_core.specs.Own.{IsEarly, IsFor}
+use Rattle.node_core.specs.Knows.{Knows, KnowsContents}
+use Rattle.node_core.specs.Own.{IsFor, OwnEntries}
 use Rattle.node_core.specs.Reading.{ReadsTruly}
+use Rattle.node_core.specs.Step.{ShowsCause}
+use Rattle.node_core.proofs.Acknowledging.{edit_acknowledged, same_acknowledged}
 use Rattle.node_core.proofs.DeathCause.{IsSilent, dead_before, dead_now}
 use Rattle.node_core.proofs.FailedCalls.{fault_stands, faulted, uncertain}
-use Rattle.node_core.proofs.KeepingOn.{knows_begun, standing}
+use Rattle.node_core.proofs.ForLemmas.{asked_is}
 use Rattle.node_core.proofs.UnreadableBase.{corrupt_from_start, too_long_from_start}
-use Rattle.node_core.specs.Step.{ShowsCause}
 
 module _ {V T M : Type 0} (r : Rules V T) (s : Store V M) (edit : T) where
-  -- the error has its cause once the turn is done
-  abbrev Caused : Turned V T → UpdateError → Type 0
-  Caused t e = ShowsCause t.world.told r s (edition_of t.world.history) t.call.id edit e t.world_after.history
+  -- the history of a call shows what it is answered, behind a turn that began in this world
+  abbrev pub ShowsReply : World V T → CallId → Progress (Reply V) → List (EntrySeen V T) → Type 0
+  ShowsReply w call (Ended (Updated edition)) = IsUpdated call edit edition
+  ShowsReply w call (Ended (Failed e)) = ShowsCause w.told r s (edition_of w.history) call edit e
+  ShowsReply w call other = λ list. Unit {0}
 
-  -- the history is as it was, or longer
-  abbrev front_now : (Holds : List (EntrySeen V T) → Type 0) (t : Turned V T) → t.world_after.history ≡ t.world.history → Holds t.world.history → HasFront Holds t.world_after.history
-  front_now Holds t same holds = record { front = t.world.history; back = []; is = same ∙ sym (append-nil t.world.history); holds = holds }
+  -- the history is as it was
+  abbrev front_now : (Holds : List (EntrySeen V T) → Type 0) (list : List (EntrySeen V T)) → Holds list → HasFront Holds list
+  front_now Holds list holds = record { front = list; back = []; is = sym (append-nil list); holds = holds }
 
-  folder_failed : {asked : FolderCall} {Part : Contents → Contents → Type 0} (t : Turned V T) (place : ℕ) → place ≡ next_place t.world → Fails t asked Part → IsEarly t.call.id t.world.history → IsFaulted t.call.id place t.world_after.history
-  folder_failed t place is it early = rw is (faulted t.call.id t.world.history t.world_after.history t.world_after.tally.count (ap (λ (w : World V T). w.history) it.world) early)
+  module _ (w : World V T) (call : CallId) (count : ℕ) where
+    -- where the folder failed
+    abbrev failed : List (EntrySeen V T)
+    failed = w.history ++ record { who = call; kind = Fault Folder count } ∷ []
 
-  -- the value that was read is that of the history
-  abbrev Reads : Turned V T → Type 0
-  Reads t = (value : V) → (IsTrue t.world.told → ReadsAs r.reads r.absent s.limits.file t.world.folder.main (Held value)) → value_at r.meanings s t.world.history ≡ Held value
+    sync_acknowledges : (ending : Ending T) → OwnEntries call (SyncingFolder ending) w.history → IsFor call edit (SyncingFolder ending) w.history → IsUpdated call edit (edition_of w.history) (with_entries call (synced_kinds (kept_edit ending)) w.history)
+    sync_acknowledges (Changed place) entries so = edit_acknowledged call edit w.history place so.0 so.1
+    sync_acknowledges (Kept asked) entries so = same_acknowledged call edit w.history asked entries so
 
-  read_cause : (Then : V → Progress (Result ℕ UpdateError) → Type 0) (t : Turned V T) (e : UpdateError) → ReadRow r s t Then (Ended (Err e)) → ReadsTruly r s t.world → IsEarly t.call.id t.world.history
-      → ((value : V) (e : UpdateError) → (IsTrue t.world.told → value_at r.meanings s t.world.history ≡ Held value) → Then value (Ended (Err e)) → Caused t e) → Caused t e
-  read_cause Then t (error.StorageFault place) it reads early rest = folder_failed t place it.0 it.1 early
-  read_cause Then t (error.FileTooLong len) it reads early rest = λ told. too_long_from_start r.meanings.after s.base t.world.history len (reads told (TooLong len) (it.0 told))
-  read_cause Then t error.Corrupt it reads early rest = λ told. record { unreadable = corrupt_from_start r.meanings.after s.base t.world.history (reads told Corrupt (it.0 told)); unreplaced = it.1 }
-  read_cause Then t error.NoMemory it reads early rest = tt
-  read_cause Then t other it reads early rest = rest it.value other (λ told. reads told (Held it.value) (it.read told)) it.then
+    sync_failed : (ending : Ending T) → OwnEntries call (SyncingFolder ending) w.history → (IsTrue w.told → KnowsContents r s (SyncingFolder ending) w.folder w.history) → IsFor call edit (SyncingFolder ending) w.history
+        → ShowsReply w call (Ended (Failed (error.NotDurable (told_place (next_place w) ending)))) failed
+    sync_failed (Changed place) entries contents so = inl (uncertain call w.history failed count refl place entries)
+    sync_failed (Kept asked) entries contents so = inr (λ told. rw (← so) (record { fault = fault_stands call w.history failed count refl; same = contents told }))
 
-  applies_cause : (asked : T) (t : Turned V T) (value : V) (e : UpdateError) → asked ≡ edit → (IsTrue t.world.told → value_at r.meanings s t.world.history ≡ Held value) → Applies r s t asked value (Ended (Err e)) → Caused t e
-  applies_cause asked t value (error.Refused code edition) so held it =
-      λ told. front_now (IsRefused r s edit code edition) t (ap (λ (w : World V T). w.history) it.2.world) (record { old = value; held = held told; refused = ap (λ t. r.meanings.after t value) (sym so) ∙ it.0; reached = it.1 })
-  applies_cause asked t value (error.ValueTooLong len) so held it =
-      let change = it.0.change in
-      λ told.
-      front_now (IsSince r s (edition_of t.world.history) (IsTooLong r s edit len)) t (ap (λ (w : World V T). w.history) it.1.world)
-      (record {
-        fresh = omega arith;
-        holds = inl (record { old = change.old; new = change.new; held = held told ∙ change.held; makes = ap (λ t. r.meanings.after t change.old) (sym so) ∙ change.makes; long = it.0.long });
-      })
-  applies_cause asked t value other so held it = absurd it
+    row_shows : {at : At V T} {e : Effect V T} → Row r s w call at e → ReadsTruly r s w → OwnEntries call at w.history → (IsTrue w.told → KnowsContents r s at w.folder w.history) → IsFor call edit at w.history
+        → ShowsReply w call (gave_by e.next) (with_entries call (all_kinds e.folder count e.kinds) w.history)
+    row_shows (full free bound) reads entries contents so = front_now (IsFull r s _ _) w.history bound
+    row_shows read_fails reads entries contents so = faulted call w.history failed count refl entries
+    row_shows (too_long read) reads entries contents so = λ told. too_long_from_start r.meanings.after s.base w.history _ (reads told (TooLong _) (read told))
+    row_shows (unreadable read unreplaced) reads entries contents so = λ told. record { unreadable = corrupt_from_start r.meanings.after s.base w.history (reads told Corrupt (read told)); unreplaced = unreplaced }
+    row_shows (refuses {edit = asked} {value} read refused) reads entries contents so =
+        λ told. front_now (IsRefused r s edit _ _) w.history (record { old = value; held = reads told (Held value) (read told); refused = ap (λ t. r.meanings.after t value) (sym (asked_is asked edit so)) ∙ refused; reached = refl })
+    row_shows (past_limit {edit = asked} {new} made long) reads entries contents so =
+        λ told.
+        front_now (IsSince r s (edition_of w.history) (IsTooLong r s edit _)) w.history
+        (record {
+          fresh = omega arith;
+          holds = inl (record { old = made.old; new = new; held = reads told (Held made.old) (made.read told); makes = ap (λ t. r.meanings.after t made.old) (sym (asked_is asked edit so)) ∙ made.makes; long = long });
+        })
+    row_shows write_fails reads entries contents so = faulted call w.history failed count refl entries
+    row_shows (acknowledges {ending}) reads entries contents so = sync_acknowledges ending entries so
+    row_shows (sync_fails {ending}) reads entries contents so = sync_failed ending entries contents so
+    row_shows other reads entries contents so = tt
 
-  lock_cause : (asked : T) (t : Turned V T) (e : UpdateError) → LockRow r s t asked (Ended (Err e)) → Caused t e
-  lock_cause asked t (error.HistoryFull entries weight) it =
-      front_now (IsFull r s entries weight) t (ap (λ (w : World V T). w.history) it.2.world) it.1
-  lock_cause asked t error.NoMemory it = tt
-  lock_cause asked t other it = absurd it
+  module _ (t : Turned V T) (k : Knows r s t.world t.call) (reads : ReadsTruly r s t.world) (so : IsFor t.call.id edit t.call.at t.world.history) where
+    shows_by : (gone died dies : Bool) (count : ℕ) (e : Effect V T) → AllowedBy r s gone died dies (begin t) e → (died ≡ true → IsSilent t.call.id t.world.history)
+        → ShowsReply t.world t.call.id (gave_by e.next) (with_entries t.call.id (all_kinds e.folder count e.kinds) t.world.history)
+    shows_by true died dies count e it silent = absurd it
+    shows_by false true dies count e it silent = rw it.is (dead_before t.call.id t.world.history it.place (silent refl) it.last)
+    shows_by false false true count e it silent = rw it (dead_now t.call.id t.world.history _ refl)
+    shows_by false false false count e it silent = row_shows t.world t.call.id count it reads k.entries k.contents so
 
-  row_cause : (at : At V T) (t : Turned V T) (e : UpdateError) → Row r s at t (Ended (Err e)) → Knows r s t.world (standing at t.call) → ReadsTruly r s t.world → IsFor t.call.id edit at t.world.history → Caused t e
-  row_cause (First asked) t e it k reads so = lock_cause asked t e it
-  row_cause (ReadingFirst asked) t e it k reads so = read_cause (ToMigrations r s t asked) t e it reads k.entries (λ value e held no. absurd no)
-  row_cause (Migrating asked value) t error.NoMemory it k reads so = tt
-  row_cause (Reading asked) t e it k reads so = read_cause (Applies r s t asked) t e it reads k.entries (λ value e held then. applies_cause asked t value e so held then)
-  row_cause (Creating plan) t (error.StorageFault place) it k reads so = folder_failed t place it.0 it.1 k.entries
-  row_cause (Appending plan) t (error.StorageFault place) it k reads so = folder_failed t place it.0 it.1 k.entries
-  row_cause (SyncingScratch plan) t (error.StorageFault place) it k reads so = folder_failed t place it.0 it.1 k.entries
-  row_cause (Renaming plan) t (error.StorageFault place) it k reads so = folder_failed t place it.0 it.1 k.entries
-  row_cause (SyncingFolder (Changed at)) t (error.NotDurable place) it k reads so =
-      inl (rw it.0 (uncertain t.call.id t.world.history t.world_after.history t.world_after.tally.count (ap (λ (w : World V T). w.history) it.1.world) at k.entries))
-  row_cause (SyncingFolder (Kept asked)) t (error.NotDurable place) it k reads so =
-      inr (λ told. rw (it.0, ← so) (record { fault = fault_stands t.call.id t.world.history t.world_after.history t.world_after.tally.count (ap (λ (w : World V T). w.history) it.1.world); same = k.contents told }))
-  row_cause at t other it k reads so = absurd it
-
-  dead_cause : (t : Turned V T) (e : UpdateError) → EndsDead t (Ended (Err e)) → IsSilent t.call.id t.world.history → Caused t e
-  dead_cause t (error.Died place) it silent = rw (ap (λ (w : World V T). w.history) it.1) (dead_before t.call.id t.world.history place silent it.0)
-  dead_cause t other it silent = absurd it
-
-  dying_cause : (t : Turned V T) (e : UpdateError) → EndsDying t (Ended (Err e)) → Caused t e
-  dying_cause t (error.Died place) it = rw it.0 (dead_now t.call.id t.world.history t.world_after.history (ap (λ (w : World V T). w.history) it.1.world))
-  dying_cause t other it = absurd it
-
-  cause_by : (gone died dies : Bool) (t : Turned V T) (e : UpdateError) → TurnBy r s gone died dies t (Ended (Err e)) → Knows r s t.world t.call → ReadsTruly r s t.world → IsFor t.call.id edit t.call.at t.world.history
-      → (died ≡ true → IsSilent t.call.id t.world.history) → Caused t e
-  cause_by true died dies t e it k reads so silent = absurd it
-  cause_by false true dies t e it k reads so silent = dead_cause t e it (silent refl)
-  cause_by false false true t e it k reads so silent = dying_cause t e it
-  cause_by false false false t e it k reads so silent = row_cause t.call.at t e it k reads so
-
-  -- an error has its cause in the history; where the node of the call has died, no entry of its client up to this call may stand behind that
-  pub error_has_cause : (t : Turned V T) (e : UpdateError) → Turn r s t (Ended (Err e)) → Knows r s t.world t.call → ReadsTruly r s t.world → IsFor t.call.id edit t.call.at t.world.history
-      → (has_died_by (begin t) ≡ true → IsSilent t.call.id t.world.history) → ShowsCause t.world.told r s (edition_of t.world.history) t.call.id edit e t.world_after.history
-  error_has_cause t e it k reads so silent = cause_by (is_gone t.call.at) (has_died_by (begin t)) (dies_now (begin t)) (begin t) e it (knows_begun r s t k) reads so silent
+    -- what a call is answered shows; where its node has died, no entry of its client up to this call may stand behind that
+    pub turn_shows : (gave : Progress (Reply V)) → Turn r s t gave → (has_died_by (begin t) ≡ true → IsSilent t.call.id t.world.history) → ShowsReply t.world t.call.id gave t.world_after.history
+    turn_shows gave it silent =
+        rw (it.comes.given, ap (λ (w : World V T). w.history) it.comes.world) (shows_by (is_gone t.call.at) (has_died_by (begin t)) (dies_now (begin t)) t.world_after.tally.count it.effect it.allowed silent)
 
   -- the whole cause, of a folder that tells what it holds
   pub told_cause : (told : Bool) (shown : ℕ) (call : CallId) (e : UpdateError) (list : List (EntrySeen V T)) → IsTrue told → ShowsCause told r s shown call edit e list → HasCause r s shown call edit e list

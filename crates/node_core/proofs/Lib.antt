@@ -8,12 +8,10 @@ pub mod EndLemmas
 pub mod EquippedLemmas
 pub mod FailedCalls
 pub mod ForLemmas
-pub mod GoingLemmas
 pub mod KeepingLemmas
 pub mod KeepingOn
 pub mod KeepingReads
 pub mod KeepingWrites
-pub mod LivingTurns
 pub mod MovingLemmas
 pub mod NewCalls
 pub mod ReadLemmas
@@ -21,7 +19,6 @@ pub mod ReadinessLemmas
 pub mod ReadyLemmas
 pub mod RenameLemmas
 pub mod RowLemmas
-pub mod SilenceLemmas
 pub mod SparingLemmas
 pub mod StepsLemmas
 pub mod TakeLemmas

@@ -1,6 +1,8 @@
 -- A node that a call has initialised is initialised at the call's next first turn.
-use Rattle.std.proofs.Common.{◌≡◌, ◌∙◌, Bool, true, false, ◌==◌, List, [], ◌∷◌, ◌++◌, unwrap_or, refl, sym, ap, if◌then◌else◌, length, inl, inr}
-use Rattle.std.proofs.lemmas.Bool.{eq-eqb}
+use Rattle.std.proofs.Common.{◌≡◌, ◌∙◌, Bool, true, false, List, ◌++◌, unwrap_or, refl, sym, ap}
+use Rattle.std.specs.List.{list_any}
+use Rattle.std.proofs.lemmas.Bool.{eq-eqb, or_parts}
+use Rattle.std.proofs.lemmas.List.Folds.{list_any-append}
 use Rattle.store_traits.specs.declared.ids.NodeId.{NodeId}
 use Rattle.hist_journal.specs.declared.seen.EntrySeen.{EntrySeen}
 use Rattle.hist_journal.specs.declared.seen.KindSeen.{KindSeen}
@@ -8,17 +10,21 @@ use Rattle.hist_journal.specs.declared.seen.KindSeen.TheVariants.{Death, Inited}
 use Rattle.hist_journal.specs.Kinds.{is_death_of, is_node}
 use Rattle.hist_journal.specs.Nodes.{is_ready, mark_if, ready_mark}
 use Rattle.hist_journal.proofs.NodeLemmas.{is_ready-push}
-use Rattle.step_table.specs.declared.progress.Progress.TheVariants.{Moved}
 use Rattle.shelf.specs.declared.store.Store.{Store}
-use Rattle.step_table.specs.Calls.{At, First, ReadingFirst, Migrating, Finishing, Reading, Raising, Creating, Appending, SyncingScratch, Renaming, SyncingFolder, Gone, Plan, is_first, is_gone}
-use Rattle.step_table.specs.Effects.{is_ready_now}
+use Rattle.shelf.specs.Entries.{is_death}
 use Rattle.shelf.specs.Meanwhile.{NoDeathOf}
-use Rattle.step_table.specs.Turn.{Row, Turn, TurnBy, begin, dies_now, has_died_by}
 use Rattle.shelf.specs.Rules.{Rules}
-use Rattle.step_table.specs.World.{Turned}
-use Rattle.step_table.specs.WriteRows.{piece_written}
 use Rattle.shelf.proofs.Bools.{never}
+use Rattle.shelf.proofs.DeathLemmas.{none_of_node}
 use Rattle.shelf.proofs.MeanwhileLemmas.{carried, spared_parts}
+use Rattle.step_table.specs.Calls.{At, Call, is_first}
+use Rattle.step_table.specs.Effects.{Comes, Effect}
+use Rattle.step_table.specs.Rows.{Row, waits, finishes}
+use Rattle.step_table.specs.Turn.{Turn}
+use Rattle.step_table.specs.World.{World, Turned, begin}
+use Rattle.step_table.specs.declared.progress.Progress.TheVariants.{Moved}
+use Rattle.node_core.specs.Between.{Between}
+use Rattle.node_core.proofs.MovingLemmas.{moves, moved_row}
 
 marked : (same : Bool) → unwrap_or (mark_if same true) true ≡ true
 marked true = refl
@@ -38,44 +44,28 @@ module _ {V T : Type 0} (node : NodeId) where
       list
       more
 
--- none of these steps is a first one
-taken : (V : Type 0) {T : Type 0} (ready : Bool) (edit : T) → is_first {V = V} (if ready then Reading edit else ReadingFirst edit) ≡ false
-taken V true edit = refl
-taken V false edit = refl
-
 module _ {V T : Type 0} where
-  filled : (plan : Plan V T) (whole : Bool) → is_first (if whole then SyncingScratch plan else Appending plan) ≡ false
-  filled plan true = refl
-  filled plan false = refl
+  -- no node has died
+  abbrev pub NoneDied : List (EntrySeen V T) → Type 0
+  NoneDied list = list_any (λ (e : EntrySeen V T). is_death e.kind) list ≡ false
 
-  inited : (node : NodeId) (list : List (EntrySeen V T)) (e : EntrySeen V T) → e.kind ≡ Inited node → is_ready node (list ++ e ∷ []) ≡ true
-  inited node list e is = is_ready-push node list e ∙ rw (is, eq-eqb node.0 node.0 refl) refl
+  -- so whatever others do, where none has died
+  pub between_stays_ready : {c : Call V T} {last now : World V T} → Between c last now → NoneDied now.history → is_ready c.id.node last.history ≡ true → is_ready c.id.node now.history ≡ true
+  between_stays_ready {c} {last} {now} b alive is =
+      let more = or_parts (list_any (λ (e : EntrySeen V T). is_death e.kind) last.history) (list_any (λ (e : EntrySeen V T). is_death e.kind) b.more) (sym (list_any-append (λ (e : EntrySeen V T). is_death e.kind) last.history b.more) ∙ (rw b.grew at alive)) in
+      rw b.grew (stays_ready c.id.node last.history b.more (none_of_node c.id.node b.more more.1) is)
 
 module _ {V T M : Type 0} (r : Rules V T) (s : Store V M) where
   -- a call whose next turn is a first one finds its node initialised
   abbrev FindsReady : Turned V T → Type 0
   FindsReady t = is_first t.call_after.at ≡ true → is_ready t.call.id.node t.world_after.history ≡ true
 
-  row_finds : (at : At V T) (t : Turned V T) → Row r s at t Moved → FindsReady t
-  row_finds (First edit) t it = rw it.call (λ first. never (sym (taken V (is_ready_now t) edit) ∙ first))
-  row_finds (ReadingFirst edit) t it = rw it.then.call (λ first. never first)
-  row_finds (Migrating edit value) t it = rw it.1.call (λ first. never first)
-  row_finds (Finishing edit) t it = λ first. rw it.world (inited t.call.id.node t.world.history (record { who = t.call.id; kind = Inited t.call.id.node }) refl)
-  row_finds (Reading edit) t it = elim it.then [ inl writes ↦ rw writes.goes_on.call (λ first. never first) | inr keeps ↦ rw keeps.goes_on.call (λ first. never first) ]
-  row_finds (Raising plan) t it = rw it.call (λ first. never first)
-  row_finds (Creating plan) t it = rw it.call (λ first. never (sym (filled plan (length plan.text.rest == 0)) ∙ first))
-  row_finds (Appending plan) t it = rw it.call (λ first. never (sym (filled (piece_written plan) (length (piece_written plan).text.rest == 0)) ∙ first))
-  row_finds (SyncingScratch plan) t it = rw it.call (λ first. never first)
-  row_finds (Renaming plan) t it = rw it.call (λ first. never first)
-  row_finds (SyncingFolder ending) t it = absurd it
-  row_finds Gone t it = absurd it
-
-  finds_by : (gone died dies : Bool) (t : Turned V T) → TurnBy r s gone died dies t Moved → FindsReady t
-  finds_by true died dies t it = absurd it
-  finds_by false true dies t it = absurd it
-  finds_by false false true t it = absurd it
-  finds_by false false false t it = row_finds t.call.at t it
+  row_finds : (t : Turned V T) {at : At V T} {e : Effect V T} → Row r s t.world t.call.id at e → moves e.next ≡ true → Comes t e Moved → FindsReady t
+  row_finds t (waits another) is comes first = never is
+  row_finds t finishes is comes first =
+      rw comes.world (is_ready-push t.call.id.node t.world.history (record { who = t.call.id; kind = Inited t.call.id.node }) ∙ rw (eq-eqb t.call.id.node.0 t.call.id.node.0 refl) refl)
+  row_finds t other is comes first = never (rw comes.call at first)
 
   -- a turn that moved a call to a first one initialised its node
   pub turn_finds : (t : Turned V T) → Turn r s t Moved → FindsReady t
-  turn_finds t it = finds_by (is_gone t.call.at) (has_died_by (begin t)) (dies_now (begin t)) (begin t) it
+  turn_finds t turn = let row = moved_row r s t turn in row_finds (begin t) row.0 row.1 turn.comes

@@ -1,16 +1,15 @@
 -- The turn in which an update's text becomes main.
-use Rattle.std.proofs.Common.{◌≡◌, ◌∙◌, ◌+◌, ℕ, true, false, List, [], ◌∷◌, length, length-append, append-nil, Some, IsTrue, sym, ap, subst}
-use Rattle.std.specs.List.{list_any}
+use Rattle.std.proofs.Common.{◌≡◌, ◌∙◌, ◌+◌, ℕ, true, false, List, [], ◌∷◌, length, length-append, append-nil, sym, ap, arith, subst}
+use Rattle.store_traits.specs.declared.codec.Codec as codec_trait
 use Rattle.store_traits.specs.declared.ids.CallId.{CallId}
-use Rattle.folder_disk.specs.Tally.{Tallies}
-use Rattle.folder_disk.specs.declared.call.FolderCall.TheVariants.{Rename}
+use Rattle.store_traits.specs.declared.transform.Transform as transform_trait
 use Rattle.folder_disk.specs.declared.folder.Folder as folder_trait
 use Rattle.hist_journal.specs.declared.seen.EntrySeen.{EntrySeen}
 use Rattle.hist_journal.specs.declared.seen.KindSeen.{KindSeen}
 use Rattle.hist_journal.specs.declared.seen.KindSeen.TheVariants.{Edit}
-use Rattle.hist_journal.specs.Kinds.{is_raise}
 use Rattle.hist_journal.specs.Nodes.{is_ready}
 use Rattle.hist_journal.proofs.FoldLemmas.{value_of-push}
+use Rattle.scratch_rename.specs.Filling.{Filling}
 use Rattle.shelf.specs.declared.store.Store.{Store}
 use Rattle.shelf.specs.Changes.{MakesValue}
 use Rattle.shelf.specs.Legal.{value_at}
@@ -21,15 +20,19 @@ use Rattle.shelf.specs.ShelfSeen.{ShelfSeen}
 use Rattle.shelf.specs.ShelfTurns.{Adds, FitInTurn}
 use Rattle.shelf.specs.Rules.{Rules}
 use Rattle.shelf.proofs.GoingOn.{GoesOn, edit_fits}
-use Rattle.step_table.specs.Calls.{Changed, Plan, Renaming, SyncingFolder}
-use Rattle.step_table.specs.Effects.{Does}
-use Rattle.step_table.specs.WriteRows.{Renames}
+use Rattle.step_table.specs.declared.progress.Progress.TheVariants.{Moved}
+use Rattle.step_table.specs.Calls.{At, Changed, Plan, Renaming, SyncingFolder, Writing}
+use Rattle.step_table.specs.Effects.{raised_by}
+use Rattle.step_table.specs.Requests.{Rename, Serves}
+use Rattle.step_table.specs.Rows.{renames}
 use Rattle.node_core.specs.declared.origin.Origin.{Origin}
 use Rattle.node_core.specs.Knows.{IsDue}
 use Rattle.node_core.specs.Plans.{HasEdit}
-use Rattle.node_core.specs.Ready.{MayWrite}
-use Rattle.node_core.specs.Views.{turned, whole}
-use Rattle.node_core.proofs.RowLemmas.{does_row}
+use Rattle.node_core.specs.Ready.{Equipped, MayWrite}
+use Rattle.node_core.specs.Steps.{Steps}
+use Rattle.node_core.specs.Views.{filled, whole, world_seen}
+use Rattle.node_core.proofs.EquippedLemmas.{room_left}
+use Rattle.node_core.proofs.RowLemmas.{goes_on}
 
 module _ {V T M : Type 0} where
   -- the edit of a call whose Raise is open may be added
@@ -51,13 +54,18 @@ module _ {V T M : Type 0} where
 
 module _ {V T : Type 0} where
   -- an edit is no Raise
-  pub raises_nothing : (plan : Plan V T) → HasEdit plan → list_any is_raise (plan.change ∷ []) ≡ false
-  raises_nothing plan asked = ap (λ (kind : KindSeen V T). list_any is_raise (kind ∷ [])) asked.is
+  pub raises_nothing : (plan : Plan V T) (version : ℕ) → HasEdit plan → raised_by (plan.change ∷ []) version ≡ version
+  raises_nothing plan version asked = ap (λ (kind : KindSeen V T). raised_by (kind ∷ []) version) asked.is
+
+-- a text of which nothing is left is whole
+pub on_whole : {C F V T : Type 0} (c : codec_trait.Ghosts C V) (t : transform_trait.Ghosts T V) (f : folder_trait.Ghosts F) (origin : Origin) (at : At V T) (old new : ShelfSeen C F V T) (change : KindSeen V T) (text : Filling) → text.rest ≡ []
+    → Steps c t f origin at old Moved (Writing Renaming (filled change text)) new → Steps c t f origin at old Moved (Writing Renaming (whole change text.written)) new
+on_whole c t f origin at old new change text none =
+    subst (λ (rest : List ℕ). Steps c t f origin at old Moved (Writing Renaming (filled change (record { written = text.written; rest = rest }))) new) none
 
 -- the text is main, and the change is told
-pub rename_row : {C F V T : Type 0} (f : folder_trait.Ghosts F) (origin : Origin) (plan : Plan V T) (old new : ShelfSeen C F V T) (place : ℕ) → HasEdit plan → old.owner ≡ Some origin.call → Adds origin.call (plan.change ∷ []) old new
-    → place ≡ length new.list → (IsTrue f.told → Renames (f.contents old.folder) (f.contents new.folder)) → Tallies f.told Rename false (f.tally old.folder) (f.tally new.folder)
-    → Does (turned f origin (Renaming plan) old origin (SyncingFolder (Changed place)) new) Rename Renames (plan.change ∷ []) (SyncingFolder (Changed (length old.list + 1)))
-rename_row f origin plan old new place edits owns adds counted renames tallies =
+pub renames_main : {C F V T : Type 0} (c : codec_trait.Ghosts C V) (t : transform_trait.Ghosts T V) (f : folder_trait.Ghosts F) (origin : Origin) (plan : Plan V T) (old new : ShelfSeen C F V T) (place : ℕ) → Equipped c t f (Writing Renaming plan) old
+    → Adds origin.call (plan.change ∷ []) old new → place ≡ length new.list → Serves Rename false (world_seen f old) (world_seen f new) → Steps c t f origin (Writing Renaming plan) old Moved (SyncingFolder (Changed place)) new
+renames_main c t f origin plan old new place e adds counted serves =
     let is : place ≡ length old.list + 1 = counted ∙ (ap length adds.list ∙ length-append old.list (record { who = origin.call; kind = plan.change } ∷ [])) in
-    rw is (does_row f origin (Renaming plan) old new Rename (SyncingFolder (Changed (length old.list + 1))) (plan.change ∷ []) Renames (raises_nothing plan edits) owns adds renames tallies)
+    rw is (goes_on c t f origin (Writing Renaming plan) old new renames adds serves (record { entries = room_left 1 e.entries adds.room (omega arith); room = tt; may = λ told. tt }))

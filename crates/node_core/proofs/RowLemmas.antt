@@ -1,137 +1,113 @@
--- What a turn of the shelf leaves, as a row of the step table.
-use Rattle.std.proofs.Common.{◌≡◌, ◌∙◌, ◌+◌, ℕ, Bool, true, false, List, [], ◌∷◌, ◌++◌, length, Option, Some, None, IsTrue, refl, sym, ap, if◌then◌else◌}
-use Rattle.std.specs.List.{list_any}
-use Rattle.std.proofs.lemmas.Bool.{or_parts}
+-- What a turn of the shelf leaves, as a step of the table.
+use Rattle.std.proofs.Common.{◌≡◌, ◌∙◌, ◌+◌, ℕ, true, false, List, [], length, Option, Result, Err, IsTrue, refl, ap}
+use Rattle.store_traits.specs.declared.codec.Codec as codec_trait
 use Rattle.store_traits.specs.declared.ids.CallId.{CallId}
+use Rattle.store_traits.specs.declared.transform.Transform as transform_trait
+use Rattle.store_traits.specs.declared.update_error.UpdateError.{UpdateError}
+use Rattle.store_traits.specs.declared.update_error.UpdateError.TheVariants.{StorageFault}
 use Rattle.folder_disk.specs.declared.folder.Folder as folder_trait
-use Rattle.folder_disk.specs.Tally.{Tally, Tallies}
-use Rattle.folder_disk.specs.declared.call.FolderCall.{FolderCall}
-use Rattle.folder_disk.specs.Contents.{Contents}
-use Rattle.hist_journal.specs.declared.device.Device.TheVariants.{Folder}
-use Rattle.hist_journal.specs.declared.seen.EntrySeen.{EntrySeen}
+use Rattle.folder_disk.specs.Tally.{Tallies}
 use Rattle.hist_journal.specs.declared.seen.KindSeen.{KindSeen}
-use Rattle.hist_journal.specs.declared.seen.KindSeen.TheVariants.{Raise, Inited, Fault}
 use Rattle.hist_journal.specs.Folds.{raises_of}
-use Rattle.hist_journal.specs.Kinds.{is_call, is_raise}
-use Rattle.hist_journal.proofs.FoldLemmas.{raises_of-other, raises_of-raise}
 use Rattle.shelf.specs.Ledger.{freed}
-use Rattle.shelf.specs.Entries.{with_entries}
 use Rattle.shelf.specs.ShelfSeen.{ShelfSeen}
-use Rattle.shelf.specs.ShelfTurns.{Adds, Faults, Frees}
-use Rattle.shelf.proofs.LedgerLemmas.{freed_room_own}
-use Rattle.shelf.proofs.SameCalls.{itself}
-use Rattle.step_table.specs.Calls.{At, First, Gone, Plan, Creating}
-use Rattle.step_table.specs.Effects.{Does, DoesLast, Fails, Stops}
-use Rattle.step_table.specs.LastRows.{Finishes}
-use Rattle.step_table.specs.WriteRows.{Raises}
+use Rattle.shelf.specs.ShelfTurns.{Faults, Frees, Leaves}
+use Rattle.step_table.specs.declared.progress.Progress.TheVariants.{Moved, Ended}
+use Rattle.step_table.specs.Calls.{At, Gone, Plan, Stage, Writing, reply_of}
+use Rattle.step_table.specs.Effects.{Comes, Effect, Ends, FolderUse, Unused, Served, Faulted, Goes, LockMove, Next, all_kinds, at_by, fails, gave_by, owner_by, raised_by}
+use Rattle.step_table.specs.Requests.{Request, Serves, call_of}
+use Rattle.step_table.specs.Requests as request
+use Rattle.step_table.specs.Rows.{Row, request_of, write_fails}
+use Rattle.step_table.proofs.Applying.{raises_added}
 use Rattle.node_core.specs.declared.origin.Origin.{Origin}
-use Rattle.node_core.specs.Views.{room_of, turned}
+use Rattle.node_core.specs.Ready.{Equipped, rules_seen}
+use Rattle.node_core.specs.Steps.{Steps}
+use Rattle.node_core.specs.Views.{turned, world_seen}
 
--- a call that owns the lock has the owner's room
-owned_room : (call : CallId) (owner : Option CallId) (room : ℕ) → owner ≡ Some call → room_of call owner room ≡ room
-owned_room call owner room owns = rw (owns, itself call) refl
+module _ {C F V T : Type 0} {call : CallId} {kinds : List (KindSeen V T)} {room : ℕ} {old : ShelfSeen C F V T} where
+  -- the version behind these entries
+  pub version_left : {owner : Option CallId} {new : ShelfSeen C F V T} → Leaves call kinds owner room old new → raises_of new.list ≡ raised_by kinds (raises_of old.list)
+  version_left leaves = ap raises_of leaves.list ∙ raises_added call kinds old.list
 
--- and none once it owns nothing
-freed_by : (own : Bool) (call owner : CallId) (room : ℕ) → is_call call owner ≡ own → room_of call (if own then None else Some owner) room ≡ 0
-freed_by true call owner room is = refl
-freed_by false call owner room is = rw is refl
-
-room_freed : (call : CallId) (owner : Option CallId) (room : ℕ) → room_of call (freed call owner) room ≡ 0
-room_freed call None room = refl
-room_freed call (Some owner) room = freed_by (is_call call owner) call owner room refl
-
-module _ {V T : Type 0} (call : CallId) where
-  -- entries that are no Raise leave the version
-  pub same_raises : (kinds : List (KindSeen V T)) (list : List (EntrySeen V T)) → list_any is_raise kinds ≡ false → raises_of (with_entries call kinds list) ≡ raises_of list
-  same_raises [] list none = refl
-  same_raises (kind ∷ kinds) list none =
-      let parts = or_parts (is_raise kind) (list_any is_raise kinds) none in
-      same_raises kinds (list ++ record { who = call; kind = kind } ∷ []) parts.1 ∙ raises_of-other list (record { who = call; kind = kind }) parts.0
-
-module _ {C F V T : Type 0} (f : folder_trait.Ghosts F) (origin : Origin) (at : At V T) (old new : ShelfSeen C F V T) where
-  -- a folder call went well, and the owner goes on
-  pub does_row : (asked : FolderCall) (at_after : At V T) (kinds : List (KindSeen V T)) (Makes : Contents → Contents → Type 0) → list_any is_raise kinds ≡ false → old.owner ≡ Some origin.call → Adds origin.call kinds old new
-      → (IsTrue f.told → Makes (f.contents old.folder) (f.contents new.folder)) → Tallies f.told asked false (f.tally old.folder) (f.tally new.folder) → Does (turned f origin at old origin at_after new) asked Makes kinds at_after
-  does_row asked at_after kinds Makes none owns adds makes tallies =
-      let same : raises_of new.list ≡ raises_of old.list = ap raises_of adds.list ∙ same_raises origin.call kinds old.list none in
+  -- a lock that is freed behind a turn that left it
+  pub then_frees : {mid new : ShelfSeen C F V T} → Leaves call kinds old.owner room old mid → Frees call [] mid new → Leaves call kinds (freed call old.owner) new.room old new
+  then_frees leaves frees =
       record {
-        folder = makes;
-        tally = tallies;
-        world = rw (same, adds.owner, adds.list) refl;
-        call = rw (owned_room origin.call new.owner new.room (adds.owner ∙ owns), owned_room origin.call old.owner old.room owns, adds.room) refl;
+        list = frees.list ∙ leaves.list;
+        owner = frees.owner ∙ ap (freed call) leaves.owner;
+        room = refl;
+        codec = frees.codec ∙ leaves.codec;
+        store = frees.store ∙ leaves.store;
       }
 
-  -- one went well, and the call ends
-  pub last_row : (Asks : Tally → Tally → Type 0) (kinds : List (KindSeen V T)) (Makes : Contents → Contents → Type 0) → list_any is_raise kinds ≡ false → Frees origin.call kinds old new
-      → (IsTrue f.told → Makes (f.contents old.folder) (f.contents new.folder)) → Asks (f.tally old.folder) (f.tally new.folder) → DoesLast (turned f origin at old origin Gone new) Asks Makes kinds
-  last_row Asks kinds Makes none frees makes tallies =
-      let same : raises_of new.list ≡ raises_of old.list = ap raises_of frees.list ∙ same_raises origin.call kinds old.list none in
-      record {
-        folder = makes;
-        tally = tallies;
-        world = rw (same, frees.owner, frees.list) refl;
-        call = rw (frees.owner, room_freed origin.call old.owner new.room) refl;
-      }
+module _ {C F V T : Type 0} (f : folder_trait.Ghosts F) (old new : ShelfSeen C F V T) (kinds : List (KindSeen V T)) where
+  -- the folder is as it was, or was asked once; where it failed, nothing but its Fault is told
+  abbrev pub Touches : FolderUse → Type 0
+  Touches Unused = new.folder ≡ old.folder
+  Touches (Served request) = Serves request false (world_seen f old) (world_seen f new)
+  Touches (Faulted request) = (kinds ≡ []) × Serves request true (world_seen f old) (world_seen f new)
 
-  -- one failed, and the call ends
-  pub fails_row : (asked : FolderCall) (Leaves : Contents → Contents → Type 0) (place : ℕ) → Faults origin.call (f.tally new.folder).count place old new
-      → (IsTrue f.told → Leaves (f.contents old.folder) (f.contents new.folder)) → Tallies f.told asked true (f.tally old.folder) (f.tally new.folder) → (place ≡ length old.list + 1) × Fails (turned f origin at old origin Gone new) asked Leaves
-  fails_row asked Leaves place faults leaves tallies =
-      let frees = faults.leaves in
-      let same : raises_of new.list ≡ raises_of old.list = ap raises_of frees.list ∙ same_raises origin.call (Fault Folder (f.tally new.folder).count ∷ []) old.list refl in (
-        faults.place,
+  -- what an effect says of lock and history
+  abbrev pub LeavesBy : FolderUse → Next V T → CallId → (room : ℕ) → Type 0
+  LeavesBy used next call room = Leaves call (all_kinds used (f.tally new.folder).count kinds) (owner_by next call old.owner) room old new
+
+  -- such a turn comes of the effect
+  comes : (origin : Origin) (at : At V T) (next : Next V T) (used : FolderUse) (room : ℕ) → LeavesBy used next origin.call room → Touches used
+      → Comes (turned f origin at old origin (at_by next at) new) (record { next = next; kinds = kinds; folder = used; dies = false }) (gave_by next)
+  comes origin at next Unused room leaves same = record { given = refl; used = tt; world = rw (same, version_left leaves, leaves.owner, leaves.list) refl; call = refl }
+  comes origin at next (Served request) room leaves serves = record { given = refl; used = serves; world = rw (version_left leaves, leaves.owner, leaves.list) refl; call = refl }
+  comes origin at next (Faulted request) room leaves failed =
+      let version : raises_of new.list ≡ raised_by kinds (raises_of old.list) = rw failed.0 (version_left (rw failed.0 at leaves)) in
+      record { given = refl; used = failed.1; world = rw (version, leaves.owner, leaves.list) refl; call = refl }
+
+module _ {C F V T : Type 0} (c : codec_trait.Ghosts C V) (t : transform_trait.Ghosts T V) (f : folder_trait.Ghosts F) (origin : Origin) (at : At V T) (old : ShelfSeen C F V T) where
+  -- the table has this effect
+  abbrev pub Line : Effect V T → Type 0
+  Line e = Row (rules_seen c t f old) old.store (world_seen f old) origin.call at e
+
+  abbrev LineOf : Next V T → List (KindSeen V T) → FolderUse → Type 0
+  LineOf next kinds used = Line (record { next = next; kinds = kinds; folder = used; dies = false })
+
+  module _ (new : ShelfSeen C F V T) where
+    -- so the call goes on
+    pub goes_on : {lock : LockMove} {to : At V T} {kinds : List (KindSeen V T)} {used : FolderUse} {room : ℕ} → LineOf (Goes lock to) kinds used
+        → LeavesBy f old new kinds used (Goes lock to) origin.call room → Touches f old new kinds used → Equipped c t f to new → Steps c t f origin at old Moved to new
+    goes_on {lock} {to} {kinds} {used} {room} line leaves touches equips =
         record {
-          folder = leaves;
-          tally = tallies;
-          world = rw (same, frees.owner, frees.list) refl;
-          call = rw (frees.owner, room_freed origin.call old.owner new.room) refl;
-        },
-      )
+          row = record { effect = _; row = line; comes = comes f old new kinds origin at (Goes lock to) used room leaves touches };
+          equips = equips;
+          store = leaves.store;
+          codec = leaves.codec;
+          waits = tt;
+        }
 
-  -- nothing but the lock changed, and the call ends
-  pub stops_row : Frees origin.call [] old new → new.folder ≡ old.folder → Stops (turned f origin at old origin Gone new)
-  stops_row frees same = record { world = rw (same, frees.owner, frees.list) refl; call = rw (frees.owner, room_freed origin.call old.owner new.room) refl }
+    -- or ends
+    pub ends : {answer : Result ℕ UpdateError} {kinds : List (KindSeen V T)} {used : FolderUse} {room : ℕ} → LineOf (Ends (reply_of answer)) kinds used
+        → LeavesBy f old new kinds used (Ends (reply_of answer)) origin.call room → Touches f old new kinds used → Steps c t f origin at old (Ended answer) Gone new
+    ends {answer} {kinds} {used} {room} line leaves touches =
+        record {
+          row = record { effect = _; row = line; comes = comes f old new kinds origin at (Ends (reply_of answer)) used room leaves touches };
+          equips = tt;
+          store = leaves.store;
+          codec = leaves.codec;
+          waits = tt;
+        }
 
-  -- the node is initialised, and the holding had room for that alone
-  pub finish_row : (edit : T) → old.owner ≡ Some origin.call → old.room ≡ 1 → Frees origin.call (Inited origin.call.node ∷ []) old new → new.folder ≡ old.folder → Finishes (turned f origin at old origin (First edit) new) edit
-  finish_row edit owns room frees same =
-      let raises : raises_of new.list ≡ raises_of old.list = ap raises_of frees.list ∙ same_raises origin.call (Inited origin.call.node ∷ []) old.list refl in
-      record {
-        world = rw (same, raises, frees.owner, frees.list) refl;
-        call = rw (frees.owner, room_freed origin.call old.owner new.room, owned_room origin.call old.owner old.room owns, room) refl;
-      }
+    -- or ends behind what it asked of the folder, and then the lock is freed
+    pub ends_behind : (mid : ShelfSeen C F V T) {answer : Result ℕ UpdateError} {kinds : List (KindSeen V T)} {request : Request} {room : ℕ}
+        → LineOf (Ends (reply_of answer)) kinds (Served request) → Leaves origin.call kinds old.owner room old mid → Serves request false (world_seen f old) (world_seen f mid)
+        → Frees origin.call [] mid new → new.folder ≡ mid.folder → Steps c t f origin at old (Ended answer) Gone new
+    ends_behind mid line leaves serves frees same = ends line (then_frees leaves frees) (record { folder = λ told. rw same (serves.folder told); tally = rw same serves.tally })
 
-  -- the version was raised
-  pub raise_row : (plan : Plan V T) → old.owner ≡ Some origin.call → Adds origin.call (Raise ∷ []) old new → new.folder ≡ old.folder → Raises (turned f origin at old origin (Creating plan) new) plan
-  raise_row plan owns adds same =
-      let more : raises_of new.list ≡ raises_of old.list + 1 = ap raises_of adds.list ∙ raises_of-raise old.list (record { who = origin.call; kind = Raise }) refl in
-      record {
-        world = rw (same, more, adds.owner, adds.list) refl;
-        call = rw (owned_room origin.call new.owner new.room (adds.owner ∙ owns), owned_room origin.call old.owner old.room owns, adds.room) refl;
-      }
+    -- or the folder fails, and it ends
+    pub faults : (request : Request) (error : ℕ → UpdateError) (place : ℕ) → Line (fails request (error (length old.list + 1))) → Faults origin.call (f.tally new.folder).count place old new
+        → Serves request true (world_seen f old) (world_seen f new) → Steps c t f origin at old (Ended (Err (error place))) Gone new
+    faults request error place line failed serves =
+        rw failed.place (ends {answer = Err (error (length old.list + 1))} {kinds = []} {used = Faulted request} line failed.leaves (refl, serves))
 
--- what is added and then freed is added by a call that owns nothing
-pub adds_then_frees : {C F V T : Type 0} (call : CallId) (kinds : List (KindSeen V T)) (old mid new : ShelfSeen C F V T) → old.owner ≡ Some call → Adds call kinds old mid → Frees call [] mid new → Frees call kinds old new
-adds_then_frees call kinds old mid new owns adds frees =
-    record {
-      list = frees.list ∙ adds.list;
-      owner = frees.owner ∙ ap (freed call) adds.owner;
-      room = frees.room ∙ (freed_room_own call mid.owner mid.room (adds.owner ∙ owns) ∙ sym (freed_room_own call old.owner old.room owns));
-      codec = frees.codec ∙ adds.codec;
-      store = frees.store ∙ adds.store;
-    }
-
-module _ {C F V T : Type 0} (call : CallId) (old new : ShelfSeen C F V T) where
-  -- what is added without a Raise leaves the version, and so does a Fault
-  pub added_raises : (kinds : List (KindSeen V T)) → list_any is_raise kinds ≡ false → Adds call kinds old new → raises_of new.list ≡ raises_of old.list
-  added_raises kinds none adds = ap raises_of adds.list ∙ same_raises call kinds old.list none
-
-  pub freed_raises : (kinds : List (KindSeen V T)) → list_any is_raise kinds ≡ false → Frees call kinds old new → raises_of new.list ≡ raises_of old.list
-  freed_raises kinds none frees = ap raises_of frees.list ∙ same_raises call kinds old.list none
-
-  pub fault_raises : (count place : ℕ) → Faults call count place old new → raises_of new.list ≡ raises_of old.list
-  fault_raises count place faults = ap raises_of faults.leaves.list ∙ same_raises call (Fault Folder count ∷ []) old.list refl
-
-  -- and a Raise raises it
-  pub raise_raises : (before after : ℕ) → before ≡ raises_of old.list → after ≡ before + 1 → Adds call (Raise ∷ []) old new → after ≡ raises_of new.list
-  raise_raises before after was more adds = more ∙ (ap (λ n. n + 1) was ∙ (sym (raises_of-raise old.list (record { who = call; kind = Raise }) refl) ∙ sym (ap raises_of adds.list)))
+-- where a write meets a folder that fails
+pub write_faults : {C F V T : Type 0} (c : codec_trait.Ghosts C V) (t : transform_trait.Ghosts T V) (f : folder_trait.Ghosts F) (origin : Origin) (stage : Stage) (plan : Plan V T) (place : ℕ) (old new : ShelfSeen C F V T)
+    → Faults origin.call (f.tally new.folder).count place old new → (IsTrue f.told → request.Leaves (request_of stage plan) true (f.contents old.folder) (f.contents new.folder))
+    → Tallies f.told (call_of (request_of stage plan)) true (f.tally old.folder) (f.tally new.folder) → Steps c t f origin (Writing stage plan) old (Ended (Err (StorageFault place))) Gone new
+write_faults c t f origin stage plan place old new failed folder tally =
+    faults c t f origin (Writing stage plan) old new (request_of stage plan) StorageFault place write_fails failed (record { folder = folder; tally = tally })

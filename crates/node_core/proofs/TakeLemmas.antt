@@ -1,67 +1,76 @@
 -- The turn in which a call takes the lock.
-use Rattle.std.proofs.Common.{◌≡◌, ◌∙◌, ℕ, Bool, [], Some, refl, sym, ap, if◌then◌else◌}
+use Rattle.std.proofs.Common.{◌≡◌, ◌∙◌, ℕ, Bool, true, false, [], Err, refl, ap, arith, subst, if◌then◌else◌}
+use Rattle.std.proofs.Math.Logic.{∥∥₁_elim}
+use Rattle.std.proofs.Math.Nat.{ℕ_set}
+use Rattle.store_traits.specs.declared.codec.Codec as codec_trait
 use Rattle.store_traits.specs.declared.ids.CallId.{CallId}
+use Rattle.store_traits.specs.declared.transform.Transform as transform_trait
+use Rattle.store_traits.specs.declared.update_error.UpdateError.{UpdateError}
+use Rattle.store_traits.specs.declared.update_error.UpdateError.TheVariants as error
+use Rattle.file_lock.specs.Owner.{IsAnother}
 use Rattle.folder_disk.specs.declared.folder.Folder as folder_trait
-use Rattle.hist_journal.specs.Nodes.{is_ready}
-use Rattle.step_table.specs.Calls.{At, First, Reading, ReadingFirst}
-use Rattle.shelf.specs.Ledger.{freed, LedgerSeen}
-use Rattle.step_table.specs.LockRow as row
-use Rattle.shelf.specs.Takes.{most_entries, HasNone, HasSpace, TakesLock}
-use Rattle.shelf.specs.PastBounds.{IsFull}
-use Rattle.shelf.specs.ShelfSeen.{ShelfSeen}
+use Rattle.shelf.specs.declared.shelf.Shelf.{Shelf}
+use Rattle.shelf.specs.Ledger.{LedgerSeen, ledger_seen}
+use Rattle.shelf.specs.Takes.{HasNone, HasSpace, TakesLock}
+use Rattle.shelf.specs.ShelfSeen.{ShelfSeen, shelf_seen}
 use Rattle.shelf.specs.ShelfTurns.{Frees}
-use Rattle.shelf.specs.Rules.{Rules, weight_at}
-use Rattle.shelf.proofs.SameCalls.{itself}
+use Rattle.shelf.specs.Rules.{weight_at}
+use Rattle.step_table.specs.declared.progress.Progress.TheVariants.{Moved, Blocked, Ended}
+use Rattle.step_table.specs.Calls.{Ask, Update, First, Gone, Initialise, Reading, Serve}
+use Rattle.step_table.specs.Effects.{Waits, does, errs}
+use Rattle.step_table.specs.Rows.{MayTake, full, lacks_room, takes, takes_first, waits}
 use Rattle.node_core.specs.declared.origin.Origin.{Origin}
-use Rattle.node_core.specs.Views.{turned}
+use Rattle.node_core.specs.Ready.{rules_seen}
+use Rattle.node_core.specs.Steps.{Steps}
+use Rattle.node_core.specs.Views.{world_seen}
+use Rattle.node_core.proofs.RowLemmas.{Line, ends, goes_on}
 
--- what a ledger shows is what its shelf shows
-pub record IsOf {C F V T : Type 0} (l : LedgerSeen V T) (s : ShelfSeen C F V T) : Type 0 where
-  pub list : l.list ≡ s.list
-  pub owner : l.owner ≡ s.owner
-  pub room : l.room ≡ s.room
-  pub bounds : l.bounds ≡ s.store.limits.history
+module _ {P C T F V : Type 0} {c : codec_trait.Ghosts C V} {t : transform_trait.Ghosts T V} {f : folder_trait.Ghosts F} where
+  -- the weight that a shelf keeps is that of its history
+  weighs : (s : Shelf P C T F V c t f) → s.ledger.journal.weight ≡ weight_at (rules_seen c t f (shelf_seen s)) s.ledger.journal.list
+  weighs s = ∥∥₁_elim s.kept (ℕ_set _ _) (λ kept. kept.weight_now)
 
-module _ {C F V T : Type 0} (f : folder_trait.Ghosts F) (r : Rules V T) (origin : Origin) (edit : T) (old new : ShelfSeen C F V T) (lo ln : LedgerSeen V T) (was : IsOf lo old) (weighs : lo.weight ≡ weight_at r old.list) where
-  pub open_row : (at : At V T) → HasSpace origin.call lo → row.IsOpen r old.store (turned f origin (First edit) old origin at new)
-  open_row at space = record { entries = rw (was.list, was.bounds) at space.entries; weight = rw (weighs, was.bounds) at space.weight }
+  -- where the lock is free, and the history open
+  may_take : (call : CallId) (s : Shelf P C T F V c t f) → (IsAnother s.ledger.lock call → ⊥) → HasSpace call (ledger_seen s.ledger) → MayTake (rules_seen c t f (shelf_seen s)) (shelf_seen s).store (world_seen f (shelf_seen s)) call
+  may_take call s free space = record { free = free; bounds = record { entries = space.entries; weight = rw (weighs s) at space.weight } }
 
-  pub takes_row : (ready : Bool) → IsOf ln new → TakesLock origin.call ready lo ln → new.folder ≡ old.folder → row.Takes r old.store (turned f origin (First edit) old origin (if ready then Reading edit else ReadingFirst edit) new) edit
-  takes_row ready now takes same =
-      let list : new.list ≡ old.list = sym now.list ∙ (takes.after.list ∙ was.list) in
-      let owner : new.owner ≡ Some origin.call = sym now.owner ∙ takes.after.owner in
-      let room : new.room ≡ most_entries ready = sym now.room ∙ takes.after.room in
-      let is : is_ready origin.call.node old.list ≡ ready = ap (is_ready origin.call.node) (sym was.list) ∙ takes.readiness in
-      record {
-        free = rw was.owner at takes.free;
-        bounds = open_row _ takes.space;
-        world = rw (same, list, owner) refl;
-        call = rw (owner, room, is, itself origin.call) refl;
-      }
+  module _ (old new : Shelf P C T F V c t f) (codec : new.codec ≡ old.codec) (folder : new.folder ≡ old.folder) (store : (shelf_seen new).store ≡ (shelf_seen old).store) where
+    -- a ledger that stayed leaves the shelf as it was, where its folder did
+    pub stays : ledger_seen new.ledger ≡ ledger_seen old.ledger → shelf_seen new ≡ shelf_seen old
+    stays same = rw (store, codec, folder, ap (λ (l : LedgerSeen V T). l.list) same, ap (λ (l : LedgerSeen V T). l.owner) same, ap (λ (l : LedgerSeen V T). l.room) same) refl
 
-  -- a bound is reached
-  pub full_row : (entries weight : ℕ) → HasNone origin.call entries weight lo → IsFull r old.store entries weight old.list
-  full_row entries weight none = record { entries_then = rw was.list at none.entries_now; weight_then = none.weight_now ∙ weighs; bound = rw was.bounds at none.bound }
+    -- the lock is taken, with room for what the holding can add
+    pub takes_lock : (origin : Origin) (ask : Ask T) (ready : Bool) → TakesLock origin.call ready (ledger_seen old.ledger) (ledger_seen new.ledger)
+        → Steps c t f origin (First ask) (shelf_seen old) Moved (Reading (if ready then Serve else Initialise) ask) (shelf_seen new)
+    takes_lock origin ask true it =
+        goes_on c t f origin (First ask) (shelf_seen old) (shelf_seen new) (takes (may_take origin.call old it.free it.space) it.readiness)
+        (record { list = it.after.list; owner = it.after.owner; room = it.after.room; codec = codec; store = store }) folder (record { entries = omega (arith, it.after.room); room = tt; may = λ told. tt })
+    takes_lock origin ask false it =
+        goes_on c t f origin (First ask) (shelf_seen old) (shelf_seen new) (takes_first (may_take origin.call old it.free it.space) it.readiness)
+        (record { list = it.after.list; owner = it.after.owner; room = it.after.room; codec = codec; store = store }) folder (record { entries = omega (arith, it.after.room); room = tt; may = λ told. tt })
 
--- a ledger that stayed, and then a lock that is freed
-pub stays_then_frees : {C F V T : Type 0} (call : CallId) (old mid new : ShelfSeen C F V T) (lo lm : LedgerSeen V T) → IsOf lo old → IsOf lm mid → lm ≡ lo → mid.codec ≡ old.codec → mid.store ≡ old.store → Frees call [] mid new → Frees call [] old new
-stays_then_frees call old mid new lo lm was is same codec store frees =
-    let owner : mid.owner ≡ old.owner = sym is.owner ∙ (ap (λ (l : LedgerSeen _ _). l.owner) same ∙ was.owner) in
-    let room : mid.room ≡ old.room = sym is.room ∙ (ap (λ (l : LedgerSeen _ _). l.room) same ∙ was.room) in
-    let list : mid.list ≡ old.list = sym is.list ∙ (ap (λ (l : LedgerSeen _ _). l.list) same ∙ was.list) in
+  -- the lock is not taken, and the call, which may own it, ends
+  module _ (origin : Origin) (ask : Ask T) (old : Shelf P C T F V c t f) (mid new : ShelfSeen C F V T) (same : mid ≡ shelf_seen old) (free : IsAnother old.ledger.lock origin.call → ⊥)
+      (frees : Frees origin.call [] mid new) (folder : new.folder ≡ mid.folder) where
+    refused : (why : UpdateError) → Line c t f origin (First ask) (shelf_seen old) (errs why) → Steps c t f origin (First ask) (shelf_seen old) (Ended (Err why)) Gone new
+    refused why line =
+        ends c t f origin (First ask) (shelf_seen old) new line (subst (λ (s : ShelfSeen C F V T). Frees origin.call [] s new) same frees) (folder ∙ ap (λ (s : ShelfSeen C F V T). s.folder) same)
+
+    pub is_full : (entries weight : ℕ) → HasNone origin.call entries weight (ledger_seen old.ledger) → Steps c t f origin (First ask) (shelf_seen old) (Ended (Err (error.HistoryFull entries weight))) Gone new
+    is_full entries weight none =
+        refused (error.HistoryFull entries weight) (full free (record { entries_then = none.entries_now; weight_then = none.weight_now ∙ weighs old; bound = none.bound }))
+
+    pub has_no_memory : HasSpace origin.call (ledger_seen old.ledger) → Steps c t f origin (First ask) (shelf_seen old) (Ended (Err error.NoMemory)) Gone new
+    has_no_memory space = refused error.NoMemory (lacks_room (may_take origin.call old free space))
+
+-- the lock is another's, and the shelf stays
+pub blocks : {C F V T : Type 0} (c : codec_trait.Ghosts C V) (t : transform_trait.Ghosts T V) (f : folder_trait.Ghosts F) (origin : Origin) (edit : T) (old new : ShelfSeen C F V T)
+    → IsAnother old.owner origin.call → new ≡ old → Steps c t f origin (First (Update edit)) old Blocked (First (Update edit)) new
+blocks {C} {F} {V} {T} c t f origin edit old new another same =
     record {
-      list = frees.list ∙ list;
-      owner = frees.owner ∙ ap (freed call) owner;
-      room = frees.room ∙ rw (owner, room) refl;
-      codec = frees.codec ∙ codec;
-      store = frees.store ∙ store;
+      row = record { effect = does Waits; row = waits another; comes = record { given = refl; used = tt; world = ap (world_seen f) same; call = refl } };
+      equips = tt;
+      store = ap (λ (s : ShelfSeen C F V T). s.store) same;
+      codec = ap (λ (s : ShelfSeen C F V T). s.codec) same;
+      waits = same;
     }
-
--- a ledger that stayed leaves the shelf as it was, where its folder did
-pub stays_all : {C F V T : Type 0} (old new : ShelfSeen C F V T) (lo ln : LedgerSeen V T) → IsOf lo old → IsOf ln new → ln ≡ lo → new.codec ≡ old.codec → new.folder ≡ old.folder → new.store ≡ old.store → new ≡ old
-stays_all old new lo ln was is same codec folder store =
-    let owner : new.owner ≡ old.owner = sym is.owner ∙ (ap (λ (l : LedgerSeen _ _). l.owner) same ∙ was.owner) in
-    let room : new.room ≡ old.room = sym is.room ∙ (ap (λ (l : LedgerSeen _ _). l.room) same ∙ was.room) in
-    let list : new.list ≡ old.list = sym is.list ∙ (ap (λ (l : LedgerSeen _ _). l.list) same ∙ was.list) in
-    let same_record : record { codec = new.codec; folder = new.folder; store = new.store; list = new.list; owner = new.owner; room = new.room } ≡ old = rw (codec, folder, store, list, owner, room) refl in
-    same_record

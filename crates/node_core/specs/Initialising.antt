@@ -1,5 +1,5 @@
 -- What a call knows that owns the lock to initialise its node, whatever it asks for.
-use Rattle.std.specs.Prelude.{◌≡◌, false, IsTrue}
+use Rattle.std.specs.Prelude.{◌≡◌, ◌≤◌, false, IsTrue}
 use Rattle.std.specs.List.{list_any}
 use Rattle.store_traits.specs.declared.codec.Codec as codec_trait
 use Rattle.store_traits.specs.declared.transform.Transform as transform_trait
@@ -24,7 +24,7 @@ module _ {P C F V T : Type 0} (c : codec_trait.Ghosts C V) (t : transform_trait.
 
   pub record IsInitialising (origin : Origin) (init : InitCall P C T F V) (s : ShelfSeen C F V T) : Type 0 where
     pub owns : Owns origin.call s
-    pub room : s.room ≡ 1
+    pub room : 1 ≤ s.room
     pub unready : is_ready origin.call.node s.list ≡ false
     pub unraised : IsRaised origin.call s → ⊥
     pub early : IsEarly origin.call s.list

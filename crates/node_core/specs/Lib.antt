@@ -1,6 +1,5 @@
 pub mod Applying
 pub mod Between
-pub mod GoesOn
 pub mod Initialising
 pub mod Knows
 pub mod Own

@@ -5,7 +5,7 @@ use Rattle.store_traits.specs.declared.ids.CallId.{CallId}
 use Rattle.hist_journal.specs.declared.seen.EntrySeen.{EntrySeen}
 use Rattle.hist_journal.specs.declared.seen.KindSeen.{KindSeen}
 use Rattle.hist_journal.specs.declared.seen.KindSeen.TheVariants.{Raise, Edit, Inited}
-use Rattle.step_table.specs.Calls.{At, First, ReadingFirst, Migrating, Finishing, Reading, Raising, Creating, Appending, SyncingScratch, Renaming, SyncingFolder, Gone, Changed, Kept, Plan}
+use Rattle.step_table.specs.Calls.{Update, At, First, Reading, Migrating, Finishing, Raising, Writing, SyncingFolder, Gone, Changed, Kept, Plan}
 use Rattle.shelf.specs.Entries.{is_own}
 use Rattle.shelf.specs.Meanwhile.{NoneOf}
 
@@ -40,16 +40,12 @@ module _ {V T : Type 0} where
 
   -- what is left to do is for this transform, or was done with it
   abbrev pub IsFor : CallId → T → At V T → List (EntrySeen V T) → Type 0
-  IsFor call edit (First asked) list = asked ≡ edit
-  IsFor call edit (ReadingFirst asked) list = asked ≡ edit
-  IsFor call edit (Migrating asked value) list = asked ≡ edit
-  IsFor call edit (Finishing asked) list = asked ≡ edit
-  IsFor call edit (Reading asked) list = asked ≡ edit
+  IsFor call edit (First ask) list = ask ≡ Update edit
+  IsFor call edit (Reading purpose ask) list = ask ≡ Update edit
+  IsFor call edit (Migrating ask value) list = ask ≡ Update edit
+  IsFor call edit (Finishing ask) list = ask ≡ Update edit
   IsFor call edit (Raising plan) list = WritesEdit edit plan
-  IsFor call edit (Creating plan) list = WritesEdit edit plan
-  IsFor call edit (Appending plan) list = WritesEdit edit plan
-  IsFor call edit (SyncingScratch plan) list = WritesEdit edit plan
-  IsFor call edit (Renaming plan) list = WritesEdit edit plan
+  IsFor call edit (Writing stage plan) list = WritesEdit edit plan
   IsFor call edit (SyncingFolder (Kept asked)) list = asked ≡ edit
   IsFor call edit (SyncingFolder (Changed place)) list = (changed : HasChanged call place list) × (changed.edit ≡ edit)
   IsFor call edit Gone list = Unit {0}

@@ -1,6 +1,6 @@
 -- How far an update has written its plan, by its next step.
 use Rattle.std.specs.Prelude.{◌≡◌, ◌≤◌, [], length}
-use Rattle.step_table.specs.Calls.{At, Raising, Creating, Appending, SyncingScratch, Renaming, Plan}
+use Rattle.step_table.specs.Calls.{At, Plan, Raising, Writing, Stage, Creating, Appending, SyncingScratch, Renaming}
 use Rattle.node_core.specs.Own.{WritesEdit}
 
 module _ {V T : Type 0} where
@@ -21,10 +21,13 @@ module _ {V T : Type 0} where
     pub asked : HasEdit plan
     pub nothing_left : plan.text.rest ≡ []
 
+  abbrev pub PlanBy : Stage → Plan V T → Type 0
+  PlanBy Creating plan = IsUnwritten plan
+  PlanBy Appending plan = IsFilling plan
+  PlanBy SyncingScratch plan = IsFilled plan
+  PlanBy Renaming plan = IsFilled plan
+
   abbrev pub PlanAt : At V T → Type 0
   PlanAt (Raising plan) = IsUnwritten plan
-  PlanAt (Creating plan) = IsUnwritten plan
-  PlanAt (Appending plan) = IsFilling plan
-  PlanAt (SyncingScratch plan) = IsFilled plan
-  PlanAt (Renaming plan) = IsFilled plan
+  PlanAt (Writing stage plan) = PlanBy stage plan
   PlanAt other = Unit {0}

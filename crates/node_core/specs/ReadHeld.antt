@@ -14,12 +14,10 @@ use Rattle.shelf.specs.Legal.{value_at}
 use Rattle.shelf.specs.ShelfSeen.{ShelfSeen}
 use Rattle.shelf.specs.ShelfTurns.{Adds}
 use Rattle.step_table.specs.declared.progress.Progress.TheVariants.{Ended}
-use Rattle.step_table.specs.Calls.{At, Gone}
-use Rattle.step_table.specs.ReadRows.{ReadRow}
+use Rattle.step_table.specs.Calls.{Ask, Gone, Purpose, Reading}
 use Rattle.node_core.specs.declared.origin.Origin.{Origin}
 use Rattle.node_core.specs.Ready.{rules_seen}
-use Rattle.node_core.specs.Steps.{as_update}
-use Rattle.node_core.specs.Views.{turned}
+use Rattle.node_core.specs.Steps.{Steps, as_update}
 
 module _ {C F V T : Type 0} (c : codec_trait.Ghosts C V) (t : transform_trait.Ghosts T V) (f : folder_trait.Ghosts F) where
   -- main's value, which is the history's, and its edition; the shelf is as it was
@@ -32,6 +30,6 @@ module _ {C F V T : Type 0} (c : codec_trait.Ghosts C V) (t : transform_trait.Gh
     pub tally : Tallies f.told ReadMain false (f.tally old.folder) (f.tally new.folder)
     pub room : f.room new.folder ≡ f.room old.folder
 
-  -- the call has ended for this reason, whichever step it was at
+  -- the call has ended for this reason, whatever it reads main for
   abbrev pub ReadFails : Origin → ReadError → ShelfSeen C F V T → ShelfSeen C F V T → Type 0
-  ReadFails origin error old new = (at : At V T) → ReadRow (rules_seen c t f old) old.store (turned f origin at old origin Gone new) (λ value gave. ⊥) (Ended (Err (as_update error)))
+  ReadFails origin error old new = (purpose : Purpose) → (ask : Ask T) → Steps c t f origin (Reading purpose ask) old (Ended (Err (as_update error))) Gone new

@@ -15,7 +15,7 @@ use Rattle.shelf.specs.ShelfSeen.{ShelfSeen}
 use Rattle.shelf.specs.Rules.{Rules}
 use Rattle.step_table.specs.declared.progress.Progress.{Progress}
 use Rattle.step_table.specs.declared.progress.Progress.TheVariants.{Moved, Blocked, Ended}
-use Rattle.step_table.specs.Calls.{At, is_first}
+use Rattle.step_table.specs.Calls.{At, is_first, replied}
 use Rattle.step_table.specs.Turn.{Turn}
 use Rattle.node_core.specs.declared.origin.Origin.{Origin}
 use Rattle.node_core.specs.Between.{Between, Died}
@@ -41,25 +41,20 @@ module _ {C F V T : Type 0} (c : codec_trait.Ghosts C V) (t : transform_trait.Gh
     pub last : ShelfSeen C F V T
     pub ready : Ready c t f origin at last
     pub readiness : initialised ≡ true → is_first at ≡ true → is_ready origin.call.node last.list ≡ true
-    pub between : Between (call_seen f origin at last) (world_seen f last) (world_seen f now)
+    pub between : Between (call_seen origin at) (world_seen f last) (world_seen f now)
     pub codec : now.codec ≡ last.codec
     pub store : now.store ≡ last.store
-    pub kept : is_holding at ≡ true → KeepsRoom last now ⊎ Died (call_seen f origin at last) between.more
+    pub kept : is_holding at ≡ true → KeepsRoom last now ⊎ Died (call_seen origin at) between.more
 
   -- one turn of the call
   abbrev pub TurnFrom : Origin → At V T → ShelfSeen C F V T → Progress (Result ℕ UpdateError) → Origin → At V T → ShelfSeen C F V T → Type 0
-  TurnFrom origin at old gave origin_after at_after new = Turn (rules_seen c t f old) old.store (turned f origin at old origin_after at_after new) gave
+  TurnFrom origin at old gave origin_after at_after new = Turn (rules_seen c t f old) old.store (turned f origin at old origin_after at_after new) (replied gave)
 
 -- the call goes on, with fewer steps left; or as many, where it is blocked
 abbrev pub StepsFall : {V T : Type 0} → ℕ → Bool → At V T → Progress (Result ℕ UpdateError) → Bool → At V T → Type 0
 StepsFall limit initialised at Moved initialised_after at_after = steps_left limit initialised_after at_after < steps_left limit initialised at
 StepsFall limit initialised at Blocked initialised_after at_after = steps_left limit initialised_after at_after ≡ steps_left limit initialised at
 StepsFall limit initialised at other initialised_after at_after = Unit {0}
-
--- a blocked call leaves all of the shelf as it was, the rooms too
-abbrev pub StaysIfBlocked : {C F V T : Type 0} → Progress (Result ℕ UpdateError) → ShelfSeen C F V T → ShelfSeen C F V T → Type 0
-StaysIfBlocked Blocked old new = new ≡ old
-StaysIfBlocked other old new = Unit {0}
 
 -- Why a call is answered by an error, as the history shows it; `shown` is an edition that was reached before. What
 -- speaks of the value or of main is shown where the folder tells what it holds

@@ -1,5 +1,5 @@
 -- The steps of the parts of a call, each as its row of the step table.
-use Rattle.std.specs.Prelude.{ℕ, Bool, true, false, Result, Err}
+use Rattle.std.specs.Prelude.{◌≡◌, ℕ, Bool, true, false, Result, Err}
 use Rattle.store_traits.specs.declared.codec.Codec as codec_trait
 use Rattle.store_traits.specs.declared.read_error.ReadError.{ReadError}
 use Rattle.store_traits.specs.declared.read_error.ReadError.TheVariants as read
@@ -8,10 +8,10 @@ use Rattle.store_traits.specs.declared.update_error.UpdateError.{UpdateError}
 use Rattle.store_traits.specs.declared.update_error.UpdateError.TheVariants as error
 use Rattle.folder_disk.specs.declared.folder.Folder as folder_trait
 use Rattle.step_table.specs.declared.progress.Progress.{Progress}
-use Rattle.step_table.specs.declared.progress.Progress.TheVariants.{Moved, Ended}
-use Rattle.step_table.specs.Calls.{At, First, SyncingFolder, Changed, Gone}
+use Rattle.step_table.specs.declared.progress.Progress.TheVariants.{Moved, Blocked, Ended}
+use Rattle.step_table.specs.Calls.{Ask, At, First, SyncingFolder, Changed, Gone, replied}
 use Rattle.shelf.specs.ShelfSeen.{ShelfSeen}
-use Rattle.step_table.specs.Turn.{Row}
+use Rattle.step_table.specs.Turn.{Works}
 use Rattle.node_core.specs.declared.init_call.InitCall.{InitCall}
 use Rattle.node_core.specs.declared.init_call.InitCall.TheVariants as stage
 use Rattle.node_core.specs.declared.init_call.Initialised.{Initialised}
@@ -34,15 +34,29 @@ as_update (read.LegacyFault at) = error.LegacyFault at
 as_update (read.Died at) = error.Died at
 as_update read.NoMemory = error.NoMemory
 
+-- a blocked call leaves all of the shelf as it was, the rooms too
+abbrev pub StaysIfBlocked : {C F V T : Type 0} → Progress (Result ℕ UpdateError) → ShelfSeen C F V T → ShelfSeen C F V T → Type 0
+StaysIfBlocked Blocked old new = new ≡ old
+StaysIfBlocked other old new = Unit {0}
+
 module _ {C F V T : Type 0} (c : codec_trait.Ghosts C V) (t : transform_trait.Ghosts T V) (f : folder_trait.Ghosts F) where
   -- the work of the step that the call was at
   abbrev pub RowFrom : Origin → At V T → ShelfSeen C F V T → Progress (Result ℕ UpdateError) → At V T → ShelfSeen C F V T → Type 0
-  RowFrom origin at old gave at_after new = Row (rules_seen c t f old) old.store at (turned f origin at old origin at_after new) gave
+  RowFrom origin at old gave at_after new = Works (rules_seen c t f old) old.store (turned f origin at old origin at_after new) (replied gave)
 
   -- a call that goes on has what its next step needs
   abbrev pub StepEquips : Progress (Result ℕ UpdateError) → At V T → ShelfSeen C F V T → Type 0
   StepEquips Moved at new = Equipped c t f at new
   StepEquips other at new = Unit {0}
+
+  -- A step of a call: the work of its row, and what the next one needs. The store stays as it was, and a blocked call leaves
+  -- all of the shelf so
+  pub record Steps (origin : Origin) (at : At V T) (old : ShelfSeen C F V T) (gave : Progress (Result ℕ UpdateError)) (at_after : At V T) (new : ShelfSeen C F V T) : Type 0 where
+    pub row : RowFrom origin at old gave at_after new
+    pub equips : StepEquips gave at_after new
+    pub store : new.store ≡ old.store
+    pub codec : new.codec ≡ old.codec
+    pub waits : StaysIfBlocked gave old new
 
 module _ {P C F V T : Type 0} where
   -- the step that ends the initialisation, and what it gives
@@ -55,16 +69,12 @@ module _ {P C F V T : Type 0} where
   is_finished other = false
 
 module _ {P C F V T : Type 0} (c : codec_trait.Ghosts C V) (t : transform_trait.Ghosts T V) (f : folder_trait.Ghosts F) where
-  abbrev pub WriteRow : Origin → At V T → ShelfSeen C F V T → Written P C T F V → ShelfSeen C F V T → Type 0
-  WriteRow origin at old (written.Moved next) new = RowFrom c t f origin at old Moved (write_seen next) new
-  WriteRow origin at old (written.Changed place) new = RowFrom c t f origin at old Moved (SyncingFolder (Changed place)) new
-  WriteRow origin at old (written.Faulted place) new = RowFrom c t f origin at old (Ended (Err (error.StorageFault place))) Gone new
+  abbrev pub WriteSteps : Origin → At V T → ShelfSeen C F V T → Written P C T F V → ShelfSeen C F V T → Type 0
+  WriteSteps origin at old (written.Moved next) new = Steps c t f origin at old Moved (write_seen next) new
+  WriteSteps origin at old (written.Changed place) new = Steps c t f origin at old Moved (SyncingFolder (Changed place)) new
+  WriteSteps origin at old (written.Faulted place) new = Steps c t f origin at old (Ended (Err (error.StorageFault place))) Gone new
 
-  abbrev pub WriteEquips : Written P C T F V → ShelfSeen C F V T → Type 0
-  WriteEquips (written.Moved next) new = Equipped c t f (write_seen next) new
-  WriteEquips other new = Unit {0}
-
-  abbrev pub InitRow : Origin → T → At V T → ShelfSeen C F V T → Initialised P C T F V → ShelfSeen C F V T → Type 0
-  InitRow origin edit at old (init.Moved next) new = RowFrom c t f origin at old Moved (init_seen edit next) new
-  InitRow origin edit at old init.Finished new = RowFrom c t f origin at old Moved (First edit) new
-  InitRow origin edit at old (init.Ended error) new = RowFrom c t f origin at old (Ended (Err (as_update error))) Gone new
+  abbrev pub InitSteps : Origin → Ask T → At V T → ShelfSeen C F V T → Initialised P C T F V → ShelfSeen C F V T → Type 0
+  InitSteps origin ask at old (init.Moved next) new = Steps c t f origin at old Moved (init_seen ask next) new
+  InitSteps origin ask at old init.Finished new = Steps c t f origin at old Moved (First ask) new
+  InitSteps origin ask at old (init.Ended error) new = Steps c t f origin at old (Ended (Err (as_update error))) Gone new

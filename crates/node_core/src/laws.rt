@@ -1,12 +1,11 @@
 //! What whoever runs several calls goes by: each law is the contract of a function that does nothing.
 ghost use Rattle.std.specs.List.{list_any};
-ghost use Rattle.std.specs.Prelude.{◌≡◌, ◌==◌, ℕ, Bool, false, Some, None, Result};
+ghost use Rattle.std.specs.Prelude.{◌≡◌, ◌==◌, Bool, false, Some, None};
 ghost use Rattle.store_traits.specs.declared.ids.CallId.{CallId};
-ghost use Rattle.store_traits.specs.declared.update_error.UpdateError.{UpdateError};
 ghost use Rattle.step_table.specs.declared.progress.Progress.{Progress};
 ghost use Rattle.shelf.specs.declared.store.Store.{Store};
 ghost use Rattle.shelf.specs.CallOrder.{is_later};
-ghost use Rattle.step_table.specs.Calls.{At, Call, First};
+ghost use Rattle.step_table.specs.Calls.{At, Call, First, Reply, Update};
 ghost use Rattle.shelf.specs.Deaths.{has_died};
 ghost use Rattle.shelf.specs.Meanwhile.{NoneOf};
 ghost use Rattle.shelf.specs.ShelfSeen.{ShelfSeen};
@@ -25,7 +24,7 @@ use store_traits::{Codec, Transform};
 /// A call of which nothing was told, and no later one of its client either, is ready for its first step.
 pub fn new_calls_are_ready<P: Parts>()
     ensures { (call : CallId) (edit : P.T) (s : ShelfSeen P.C P.F P.C.Value P.T) → NoneOf call s.list → list_any (is_later call) s.list ≡ false
-        → Ready P.C.Codec P.T.Transform P.F.Folder (record { call = call; since = None }) (First edit) s }
+        → Ready P.C.Codec P.T.Transform P.F.Folder (record { call = call; since = None }) (First (Update edit)) s }
 {}
 
 /// A call that may step is ready as the shelf is now, where its node has not died since it began.
@@ -38,17 +37,9 @@ pub fn calls_stay_ready<P: Parts>()
 /// A turn leaves a call of another client what it has: it adds no entry of that call, and where that call owns the lock,
 /// it disturbs nothing of it unless their node dies.
 pub fn turns_spare_other_calls<C: Codec, T: Transform<Value = C::Value>, M>()
-    ensures { (c : C) (s : Store C.Value M) (t : Turned C.Value T) (gave : Progress (Result ℕ UpdateError)) (other : Call C.Value T)
+    ensures { (c : C) (s : Store C.Value M) (t : Turned C.Value T) (gave : Progress (Reply C.Value)) (other : Call C.Value T)
         → Turn (rules_of T.after T.weight_of (C.encoded c) (C.reads c) (C.default_of c)) s t gave
         → Knows (rules_of T.after T.weight_of (C.encoded c) (C.reads c) (C.default_of c)) s t.world t.call
         → Knows (rules_of T.after T.weight_of (C.encoded c) (C.reads c) (C.default_of c)) s t.world other
         → (other.id.client.0 == t.call.id.client.0) ≡ false → Between other t.world t.world_after }
-{}
-
-/// A turn gives the lock to nobody but its own call. A call that has ended owns nothing (`ended_calls_own_nothing` of
-/// `step_table`), so whoever owns the lock goes on: of all calls in progress one at least is not blocked.
-pub fn turns_give_no_lock_to_others<C: Codec, T: Transform<Value = C::Value>, M>()
-    ensures { (c : C) (s : Store C.Value M) (t : Turned C.Value T) (gave : Progress (Result ℕ UpdateError)) (other : CallId)
-        → Turn (rules_of T.after T.weight_of (C.encoded c) (C.reads c) (C.default_of c)) s t gave
-        → t.world_after.owner ≡ Some other → (other ≡ t.call.id → ⊥) → t.world.owner ≡ Some other }
 {}

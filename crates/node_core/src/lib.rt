@@ -12,8 +12,6 @@ mod read_held;
 mod update_call;
 mod write_call;
 
-pub use laws::{
-    calls_stay_ready, new_calls_are_ready, turns_give_no_lock_to_others, turns_spare_other_calls,
-};
+pub use laws::{calls_stay_ready, new_calls_are_ready, turns_spare_other_calls};
 pub use step_table::Progress;
 pub use update_call::UpdateCall;

@@ -1,4 +1,5 @@
 ghost use Rattle.std.specs.Prelude.{◌≡◌, ◌≤◌, IfErr, IfOk, IsTrue};
+ghost use Rattle.hist_journal.specs.Folds.{raises_of};
 ghost use Rattle.shelf.specs.ShelfSeen.{shelf_seen};
 ghost use Rattle.shelf.specs.ShelfTurns.{IsRaised, MayFault, Owns};
 ghost use Rattle.node_core.specs.ReadHeld.{HasRead, ReadFails};
@@ -19,9 +20,8 @@ pub fn read_held<P: Parts>(
     requires lawful { IsTrue P.F.told → MayFault P.T.after origin.call (shelf_seen shelf.old) }
     requires unraised { IsRaised origin.call (shelf_seen shelf.old) → ⊥ }
     ensures ok { IfOk result (λ given. HasRead P.C.Codec P.T.Transform P.F.Folder origin given (shelf_seen shelf.old) (shelf_seen shelf.new)) }
-    ensures store { (shelf_seen shelf.new).store ≡ (shelf_seen shelf.old).store }
-    ensures codec { shelf.new.codec ≡ shelf.old.codec }
     ensures err { IfErr result (λ error. ReadFails P.C.Codec P.T.Transform P.F.Folder origin error (shelf_seen shelf.old) (shelf_seen shelf.new)) }
+    ensures raises { raises_of (shelf_seen shelf.new).list ≡ raises_of (shelf_seen shelf.old).list }
 {
     let error = match shelf.read_main(alloc, origin.call) {
         Loaded::Value(given) => return Ok(given),

@@ -14,10 +14,11 @@ use Rattle.hist_journal.specs.Quiet.{pending}
 use Rattle.shelf.specs.declared.store.Store.{Store}
 use Rattle.shelf.specs.CallOrder.{is_later}
 use Rattle.step_table.specs.Calls.{Call}
-use Rattle.shelf.specs.Entries.{is_own}
+use Rattle.shelf.specs.Entries.{is_any, is_own}
 use Rattle.shelf.specs.Rules.{Rules}
 use Rattle.step_table.specs.World.{World}
 use Rattle.shelf.proofs.Bools.{never}
+use Rattle.shelf.proofs.LastRaises.{ends_in_raise-none}
 use Rattle.shelf.proofs.PendingMeanwhile.{pending_own}
 use Rattle.node_core.specs.Knows.{Knows}
 use Rattle.node_core.specs.Own.{is_late}
@@ -77,6 +78,7 @@ module _ {V T M : Type 0} (r : Rules V T) (s : Store V M) where
         numbers = none_later clients place client found stands w.history all;
         entries = none_own clients place client found stands is_late w.history all;
         plan = tt;
+        last = sym (ends_in_raise-none (call_of client (client.begun + 1)) w.history (none_own clients place client found stands is_any w.history all));
         raised = (λ is. never is, λ is. absurd (not_pending clients place client found stands w.history all is));
         holds = λ is. never is;
         contents = λ told. tt;

@@ -1,38 +1,27 @@
 -- A client whose next call begins is at work, as its scene says.
-use Rattle.std.proofs.Common.{◌≡◌, ◌∙◌, inl, inr, ◌+◌, ℕ, Bool, true, false, if◌then◌else◌, Option, Some, None, is_some, option_map, slice_get, refl, sym, ap, subst}
+use Rattle.std.proofs.Common.{◌≡◌, ◌∙◌, inl, inr, ℕ, Option, Some, None, is_some, option_map, slice_get, refl, sym, ap, subst, arith}
 use Rattle.std.specs.Borrow.{Bor}
 use Rattle.std.proofs.lemmas.Option.{slice_get-map}
 use Rattle.store_traits.specs.declared.codec.Codec as codec_trait
-use Rattle.store_traits.specs.declared.ids.CallId.{CallId}
 use Rattle.store_traits.specs.declared.transform.Transform as transform_trait
 use Rattle.folder_disk.specs.declared.folder.Folder as folder_trait
 use Rattle.folder_disk.specs.declared.mem_folder.MemFolder.{MemFolder}
-use Rattle.hist_journal.specs.Kinds.{is_call}
 use Rattle.prefs_proto.specs.declared.prefs_codec.PrefsCodec.{PrefsCodec}
 use Rattle.shelf.specs.declared.shelf.Shelf.{Shelf}
 use Rattle.shelf.specs.declared.store.Store.{Store}
 use Rattle.step_table.specs.Calls.{Call}
-use Rattle.shelf.specs.ShelfSeen.{shelf_seen}
 use Rattle.shelf.specs.Rules.{Rules}
 use Rattle.step_table.specs.World.{World}
-use Rattle.shelf.proofs.SameCalls.{same_call}
-use Rattle.node_core.specs.Views.{room_of}
 use Rattle.replay_run.specs.declared.client.Client as own
 use Rattle.replay_run.specs.declared.prefs_parts.PrefsParts.{PrefsParts}
-use Rattle.replay_run.specs.ClientSteps.{BeginsBy, BeginsCall, GoesAlone, TakesTurn}
+use Rattle.replay_run.specs.ClientSteps.{BeginsBy, GoesAlone, TakesTurn}
 use Rattle.replay_run.specs.Scene.{Client, call_of}
-use Rattle.replay_run.specs.StageView.{Change, EquippedIn, Running, Value, call_in, client_in, running_seen}
+use Rattle.replay_run.specs.StageView.{Change, EquippedIn, Running, Value, client_seen, update_seen}
 use Rattle.replay_run.specs.Step.{at_work, begin_next, new_call}
 use Rattle.replay_run.proofs.ClientTurns.{at_work_same}
 
--- whoever does not own the lock has no room
-pub room_other : (call : CallId) (owner : Option CallId) (room : ℕ) → (owner ≡ Some call → ⊥) → room_of call owner room ≡ 0
-room_other call None room apart = refl
-room_other call (Some owner) room apart = by_own (is_call call owner) refl
-  where
-    by_own : (own : Bool) → is_call call owner ≡ own → (if own then room else 0) ≡ 0
-    by_own false is = refl
-    by_own true is = absurd (apart (ap Some (sym (same_call call owner is))))
+abbrev now_of : Bor Change → Change
+now_of edit = edit.now
 
 module _ {V T : Type 0} where
   again_by : (client : Client V T) (running : Option (Call V T)) (edit : Option T) → client.running ≡ running → slice_get client.edits client.begun ≡ edit → at_work (begin_next client running edit) ≡ begin_next client running edit
@@ -77,31 +66,21 @@ module _ {V T M : Type 0} (r : Rules V T) (s : Store V M) where
         | inr rests ↦ inr (ap (λ o. is_some o) rests.0, rests.1 ∙ idle_by client client.running (slice_get client.edits client.begun) refl rests.0, rests.2)
       ]
 
-module _ {c : codec_trait.Ghosts PrefsCodec Value} {t : transform_trait.Ghosts Change Value} {f : folder_trait.Ghosts MemFolder} (shelf : Shelf (PrefsParts MemFolder) PrefsCodec Change MemFolder Value c t f) (old mid : own.Client)
-    (apart : (shelf_seen shelf).owner ≡ Some (call_of (client_in shelf old) (old.begun + 1)) → ⊥) where
-  abbrev now_of : Bor Change → Change
-  now_of edit = edit.now
-
-  begun_call : (edit : Change) (it : BeginsCall old edit mid) → call_in shelf it.call ≡ new_call (client_in shelf old) edit
-  begun_call edit it =
-      let room = room_other (call_of (client_in shelf old) (old.begun + 1)) (shelf_seen shelf).owner (shelf_seen shelf).room apart in
-      rw (it.state, it.origin, room) refl
-
+module _ (old mid : own.Client) where
   seen_by : (running : Option Running) (edit : Option (Bor Change)) → old.running ≡ running → BeginsBy old running edit mid
-      → client_in shelf mid ≡ begin_next (client_in shelf old) (running_seen f (shelf_seen shelf) running) (option_map now_of edit)
-  seen_by None (Some edit) idle it =
-      let same = begun_call edit.now it in
-      rw (it.now, it.initialised, same) refl
-  seen_by None None idle it = ap (λ (x : own.Client). client_in shelf x) it
-  seen_by (Some call) edit runs it = ap (λ (x : own.Client). client_in shelf x) it
+      → client_seen mid ≡ begin_next (client_seen old) (option_map update_seen running) (option_map now_of edit)
+  seen_by None (Some edit) idle it = rw (it.now, it.initialised, it.state, it.origin) refl
+  seen_by None None idle it = ap client_seen it
+  seen_by (Some call) edit runs it = ap client_seen it
 
-  pub begins_seen : BeginsBy old old.running (slice_get old.edits.items old.begun) mid → client_in shelf mid ≡ at_work (client_in shelf old)
+  pub begins_seen : BeginsBy old old.running (slice_get old.edits.items old.begun) mid → client_seen mid ≡ at_work (client_seen old)
   begins_seen it =
       seen_by old.running (slice_get old.edits.items old.begun) refl it
-      ∙ ap (λ edit. begin_next (client_in shelf old) (client_in shelf old).running edit) (sym (slice_get-map now_of old.edits.items old.begun))
+      ∙ ap (λ edit. begin_next (client_seen old) (client_seen old).running edit) (sym (slice_get-map now_of old.edits.items old.begun))
 
+module _ {c : codec_trait.Ghosts PrefsCodec Value} {t : transform_trait.Ghosts Change Value} {f : folder_trait.Ghosts MemFolder} (shelf : Shelf (PrefsParts MemFolder) PrefsCodec Change MemFolder Value c t f) (old mid : own.Client) where
   equipped_by : (running : Option Running) (edit : Option (Bor Change)) → old.running ≡ running → BeginsBy old running edit mid → EquippedIn shelf old → EquippedIn shelf mid
-  equipped_by None (Some edit) idle it was = rw (ap (λ (x : own.Client). x.running) it.now, it.state) (record { room = tt; may = λ told. tt })
+  equipped_by None (Some edit) idle it was = rw (ap (λ (x : own.Client). x.running) it.now, it.state) (record { entries = omega arith; room = tt; may = λ told. tt })
   equipped_by None None idle it was = subst (λ (x : own.Client). EquippedIn shelf x) (sym it) was
   equipped_by (Some call) edit runs it was = subst (λ (x : own.Client). EquippedIn shelf x) (sym it) was
 

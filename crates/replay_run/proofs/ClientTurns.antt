@@ -1,5 +1,5 @@
 -- What a client comes to by a turn of its call.
-use Rattle.std.proofs.Common.{◌≡◌, ◌⊎◌, ◌∙◌, inl, inr, ◌≤◌, ◌||◌, ℕ, IfSome, OnOk, arith, false, [], ◌∷◌, ◌++◌, map, Option, Some, None, slice_get, refl, sym, ap, Result, Ok, Err}
+use Rattle.std.proofs.Common.{◌≡◌, ◌⊎◌, ◌∙◌, inl, inr, ◌≤◌, ◌||◌, ℕ, IfSome, OnOk, arith, false, [], Option, Some, None, option_map, slice_get, refl, sym, ap, Result, Ok, Err}
 use Rattle.std.specs.List.{list_any}
 use Rattle.std.proofs.lemmas.List.{map-append}
 use Rattle.store_traits.specs.declared.codec.Codec as codec_trait
@@ -17,21 +17,31 @@ use Rattle.shelf.specs.ShelfSeen.{shelf_seen}
 use Rattle.shelf.specs.Rules.{Rules}
 use Rattle.step_table.specs.declared.progress.Progress.{Progress}
 use Rattle.step_table.specs.declared.progress.Progress.TheVariants.{Moved, Blocked, Ended}
-use Rattle.step_table.specs.Calls.{Call, is_gone}
+use Rattle.step_table.specs.Calls.{Call, Reply, is_gone, replied}
 use Rattle.step_table.specs.Turn.{Turn}
 use Rattle.step_table.specs.World.{Turned}
 use Rattle.node_core.specs.Knows.{Knows}
 use Rattle.node_core.specs.Phases.{is_finishing}
 use Rattle.node_core.specs.Step.{TurnFrom}
 use Rattle.node_core.specs.Views.{state_seen}
+use Rattle.node_core.proofs.KeepingLemmas.{turn_stays}
+use Rattle.node_core.proofs.MovingLemmas.{moved_runs}
 use Rattle.node_core.proofs.SparingLemmas.{owned_waits}
 use Rattle.replay_run.specs.declared.client.Client as own
 use Rattle.replay_run.specs.declared.prefs_parts.PrefsParts.{PrefsParts}
 use Rattle.replay_run.specs.ClientSteps.{HasAnswer, TakesTurn}
 use Rattle.replay_run.specs.Scene.{Client, call_of}
-use Rattle.replay_run.specs.StageView.{Change, Running, Value, answered_seen, call_in, client_in, is_initialised, rules_in, running_seen, store_in, world_in}
+use Rattle.replay_run.specs.StageView.{Change, Running, Value, answered_seen, client_seen, rules_in, store_in, update_seen, world_in}
 use Rattle.replay_run.specs.Step.{at_work, begin_next, behind_turn}
-use Rattle.replay_run.proofs.OwnTurns.{living, moves_on, unplanned, waits_same}
+use Rattle.replay_run.proofs.OwnTurns.{goes_on, living}
+
+-- a result that is none of an ended call
+pub not_ended : (gave : Progress (Result ℕ UpdateError)) (answer : Result ℕ UpdateError) → (gave ≡ Moved) ⊎ (gave ≡ Blocked) → gave ≡ Ended answer → ⊥
+not_ended gave answer so ended =
+    elim so [
+      | inl moved ↦ (let no : ◌≡◌ {A = Progress (Result ℕ UpdateError)} Moved (Ended answer) = sym moved ∙ ended in cc)
+      | inr blocked ↦ (let no : ◌≡◌ {A = Progress (Result ℕ UpdateError)} Blocked (Ended answer) = sym blocked ∙ ended in cc)
+    ]
 
 module _ {V T : Type 0} where
   begins_none : (client : Client V T) (running : Option (Call V T)) (edit : Option T) (call : Call V T) → running ≡ Some call → begin_next client running edit ≡ client
@@ -42,89 +52,70 @@ module _ {V T : Type 0} where
   pub at_work_same : (client : Client V T) (call : Call V T) → client.running ≡ Some call → at_work client ≡ client
   at_work_same client call runs = begins_none client client.running (slice_get client.edits client.begun) call runs
 
-module _ {V T M : Type 0} (r : Rules V T) (s : Store V M) (t : Turned V T) (alive : list_any (λ e. is_death e.kind) t.world.history ≡ false) (none : t.world.deaths ≡ []) where
+blocked_so : (gave : Progress (Result ℕ UpdateError)) → {V : Type 0} → ◌≡◌ {A = Progress (Reply V)} (replied gave) Blocked → gave ≡ Blocked
+blocked_so Blocked is = refl
+blocked_so Moved is = cc
+blocked_so (Ended answer) is = cc
+
+module _ {V T M : Type 0} (r : Rules V T) (s : Store V M) (t : Turned V T) where
   -- a call that has not ended goes on
-  pub still_on : (gave : Progress (Result ℕ UpdateError)) → Turn r s t gave → is_gone t.call.at ≡ false → (gave ≡ Moved) ⊎ (gave ≡ Blocked) → is_gone t.call_after.at ≡ false
-  still_on Moved it goes_on so = moves_on r s t alive none it
-  still_on Blocked it goes_on so =
-      let at : t.call_after.at ≡ t.call.at = ap (λ (c : Call V T). c.at) (waits_same r s t alive none it).call in
-      rw at goes_on
-  still_on (Ended answer) it goes_on so =
-      elim so [
-        | inl moved ↦ absurd (let no : ◌≡◌ {A = Progress (Result ℕ UpdateError)} (Ended answer) Moved = moved in cc)
-        | inr blocked ↦ absurd (let no : ◌≡◌ {A = Progress (Result ℕ UpdateError)} (Ended answer) Blocked = blocked in cc)
-      ]
+  pub still_on : (gave : Progress (Result ℕ UpdateError)) → Turn r s t (replied gave) → is_gone t.call.at ≡ false → (gave ≡ Moved) ⊎ (gave ≡ Blocked) → is_gone t.call_after.at ≡ false
+  still_on Moved turn running so = moved_runs r s t turn
+  still_on Blocked turn running so = ap (λ (c : Call V T). is_gone c.at) (turn_stays r s t turn).1 ∙ running
+  still_on (Ended answer) turn running so = absurd (not_ended (Ended answer) answer so refl)
 
   -- where another owns the lock, the call waits
-  pub lock_waits : (other : CallId) (gave : Progress (Result ℕ UpdateError)) → Turn r s t gave → Knows r s t.world t.call → t.world.owner ≡ Some other → (other ≡ t.call.id → ⊥) → gave ≡ Blocked
-  lock_waits other gave it knows owned apart = owned_waits r s t gave it knows (living r s t alive) (unplanned r s t none) other owned apart
+  pub lock_waits : list_any (λ e. is_death e.kind) t.world.history ≡ false → t.world.deaths ≡ [] → (other : CallId) (gave : Progress (Result ℕ UpdateError)) → Turn r s t (replied gave) → Knows r s t.world t.call
+      → t.world.owner ≡ Some other → (other ≡ t.call.id → ⊥) → gave ≡ Blocked
+  lock_waits alive none other gave turn knows owned apart = blocked_so gave (owned_waits r s t (replied gave) turn knows (living r s t alive) (goes_on r s t alive none) other owned apart)
 
 module _ {c : codec_trait.Ghosts PrefsCodec Value} {t : transform_trait.Ghosts Change Value} {f : folder_trait.Ghosts MemFolder} (old new : Shelf (PrefsParts MemFolder) PrefsCodec Change MemFolder Value c t f) (client : own.Client) (call call_after : Running)
     (runs : client.running ≡ Some call) where
   abbrev was : Client Value Change
-  was = client_in old client
+  was = client_seen client
 
-  running_is : was.running ≡ Some (call_in old call)
-  running_is = ap (λ (running : Option Running). running_seen f (shelf_seen old) running) runs
+  running_is : was.running ≡ Some (update_seen call)
+  running_is = ap (option_map update_seen) runs
 
   pub takes : (client_after : own.Client) (gave : Progress (Result ℕ UpdateError)) → TurnFrom c t f call.origin (state_seen call.state) (shelf_seen old) gave call_after.origin (state_seen call_after.state) (shelf_seen new)
-      → (gave ≡ Ended (Err error.NoMemory) → ⊥) → (world_in new).tally.count ≡ (world_in old).tally.count
-      → client_in new client_after ≡ behind_turn was (call_in old call) gave (call_in new call_after)
-      → TakesTurn (rules_in old) (store_in old) was (world_in old) (client_in new client_after) (world_in new)
+      → (gave ≡ Ended (Err error.NoMemory) → ⊥) → (world_in new).tally.count ≡ (world_in old).tally.count → client_seen client_after ≡ behind_turn was (update_seen call) gave (update_seen call_after)
+      → TakesTurn (rules_in old) (store_in old) was (world_in old) (client_seen client_after) (world_in new)
   takes client_after gave turn memory unfailed now =
-      let same : at_work was ≡ was = at_work_same was (call_in old call) running_is in
+      let same : at_work was ≡ was = at_work_same was (update_seen call) running_is in
       inl
       (record {
-        call = call_in old call;
-        call_after = call_in new call_after;
+        call = update_seen call;
+        call_after = update_seen call_after;
         gave = gave;
         works = ap (λ (x : Client Value Change). x.running) same ∙ running_is;
         turn = turn;
         memory = memory;
         unfailed = unfailed;
-        now = now ∙ ap (λ (x : Client Value Change). behind_turn x (call_in old call) gave (call_in new call_after)) (sym same);
+        now = now ∙ ap (λ (x : Client Value Change). behind_turn x (update_seen call) gave (update_seen call_after)) (sym same);
       })
 
+module _ (client : own.Client) (call call_after : Running) (runs : client.running ≡ Some call) where
   abbrev running_on : own.Client
   running_on = record client { running = Some call_after }
 
   -- the call goes on
   pub goes_on_seen : (gave : Progress (Result ℕ UpdateError)) → (gave ≡ Moved) ⊎ (gave ≡ Blocked) → call_after.initialised ≡ (call.initialised || is_finishing (state_seen call.state))
-      → client_in new running_on ≡ behind_turn was (call_in old call) gave (call_in new call_after)
+      → client_seen running_on ≡ behind_turn (client_seen client) (update_seen call) gave (update_seen call_after)
   goes_on_seen gave so initialised = by_gave gave so
     where
-      flag : call_after.initialised ≡ (is_initialised client.running || is_finishing (state_seen call.state))
-      flag = rw runs initialised
+      seen : client_seen running_on ≡ behind_turn (client_seen client) (update_seen call) Moved (update_seen call_after)
+      seen = rw (runs, initialised) refl
 
-      seen : client_in new running_on ≡ record was { running = Some (call_in new call_after); initialised = was.initialised || is_finishing (state_seen call.state) }
-      seen = ap (λ b. record was { running = Some (call_in new call_after); initialised = b }) flag
-
-      by_gave : (g : Progress (Result ℕ UpdateError)) → (g ≡ Moved) ⊎ (g ≡ Blocked) → client_in new running_on ≡ behind_turn was (call_in old call) g (call_in new call_after)
+      by_gave : (g : Progress (Result ℕ UpdateError)) → (g ≡ Moved) ⊎ (g ≡ Blocked) → client_seen running_on ≡ behind_turn (client_seen client) (update_seen call) g (update_seen call_after)
       by_gave Moved so = seen
       by_gave Blocked so = seen
-      by_gave (Ended answer) so =
-          elim so [
-            | inl moved ↦ absurd (let no : ◌≡◌ {A = Progress (Result ℕ UpdateError)} (Ended answer) Moved = moved in cc)
-            | inr blocked ↦ absurd (let no : ◌≡◌ {A = Progress (Result ℕ UpdateError)} (Ended answer) Blocked = blocked in cc)
-          ]
+      by_gave (Ended answer) so = absurd (not_ended (Ended answer) answer so refl)
 
   -- the call has ended
-  pub ended_seen : (client_after : own.Client) (answer : Result ℕ UpdateError) → HasAnswer running_on answer client_after → call.origin.call ≡ call_of was client.begun
-      → client_in new client_after ≡ behind_turn was (call_in old call) (Ended answer) (call_in new call_after)
+  pub ended_seen : (client_after : own.Client) (answer : Result ℕ UpdateError) → HasAnswer running_on answer client_after → call.origin.call ≡ call_of (client_seen client) client.begun
+      → client_seen client_after ≡ behind_turn (client_seen client) (update_seen call) (Ended answer) (update_seen call_after)
   ended_seen client_after answer it id =
-      let items : map answered_seen client_after.answered.items ≡ map answered_seen client.answered.items ++ record { call = call_of was client.begun; answer = answer } ∷ [] =
-      ap (map answered_seen) it.items ∙ map-append answered_seen client.answered.items (record { call = record { node = client.node; client = client.id; number = client.begun }; answer = answer } ∷ []) in
-      ap (λ (x : own.Client). client_in new x) it.now
-      ∙ (ap (λ list. record was { running = None; initialised = false; answered = list }) items
-      ∙ ap (λ (i : CallId). record was { running = None; initialised = false; answered = map answered_seen client.answered.items ++ record { call = i; answer = answer } ∷ [] }) (sym id))
-
--- a result that is none of an ended call
-pub not_ended : (gave : Progress (Result ℕ UpdateError)) (answer : Result ℕ UpdateError) → (gave ≡ Moved) ⊎ (gave ≡ Blocked) → gave ≡ Ended answer → ⊥
-not_ended gave answer so ended =
-    elim so [
-      | inl moved ↦ (let no : ◌≡◌ {A = Progress (Result ℕ UpdateError)} Moved (Ended answer) = sym moved ∙ ended in cc)
-      | inr blocked ↦ (let no : ◌≡◌ {A = Progress (Result ℕ UpdateError)} Blocked (Ended answer) = sym blocked ∙ ended in cc)
-    ]
+      rw (it.now, it.items, id) (ap (λ list. record (client_seen client) { running = None; initialised = false; answered = list }) (map-append answered_seen client.answered.items _))
 
 pub same_answer : (a b : Result ℕ UpdateError) → ◌≡◌ {A = Progress (Result ℕ UpdateError)} (Ended a) (Ended b) → a ≡ b
 same_answer a b same = cc

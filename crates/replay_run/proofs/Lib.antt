@@ -15,15 +15,14 @@ pub mod LineLemmas
 pub mod OneRun
 pub mod OneStep
 pub mod OneTranscript
-pub mod OneTurn
 pub mod OpeningLemmas
-pub mod Outcomes
 pub mod OverLemmas
 pub mod OwnTurns
 pub mod PlayedRuns
 pub mod ReplacedClient
-pub mod RowOutcomes
+pub mod Replies
 pub mod RunClients
+pub mod RunKeeps
 pub mod RunLemmas
 pub mod ServedOrders
 mod SessionRun

@@ -11,6 +11,7 @@ use Rattle.replay_run.specs.Step.{Goes, has_work}
 use Rattle.replay_run.proofs.LineLemmas.{one_of}
 use Rattle.replay_run.proofs.OneStep.{IsOneScene, IsSteady, both_same, goes_once, rests_idle}
 use Rattle.replay_run.proofs.OverLemmas.{none_at}
+use Rattle.replay_run.proofs.RunKeeps.{rounds_keep}
 
 -- where nobody has anything to do, nothing changes any more
 module _ {V T M : Type 0} (r : Rules V T) (s : Store V M) where
@@ -18,19 +19,9 @@ module _ {V T M : Type 0} (r : Rules V T) (s : Store V M) where
   goes_over place old new over (inl it) = rests_idle it.client it.acts.call (none_at has_work old.clients place it.client over it.was) it.acts.works
   goes_over place old new over (inr it) = it.same
 
-  each_over : (place clients : ℕ) (old new : Scene V T) → IsOver old → GoesEach r s place clients old new → new ≡ old
-  unfolding GoesEach
-  each_over place zero old new over it = it
-  each_over place (suc clients) old new over it =
-      let same = goes_over place old it.0 over it.1 in
-      each_over (place + 1) clients it.0 new (subst IsOver (sym same) over) it.2 ∙ same
-
   rounds_over : (rounds : ℕ) (old new : Scene V T) → IsOver old → Rounds r s rounds old new → new ≡ old
-  unfolding Rounds
-  rounds_over zero old new over it = it
-  rounds_over (suc rounds) old new over it =
-      let same = each_over 0 (length old.clients) old it.0 over it.1 in
-      rounds_over rounds it.0 new (subst IsOver (sym same) over) it.2 ∙ same
+  rounds_over rounds old new over it =
+      rounds_keep r s (λ scene. scene ≡ old) (λ place x y goes same. goes_over place x y (subst IsOver (sym same) over) goes ∙ same) rounds old new it refl
 
 -- two stores of the same limits
 module _ {V T M : Type 0} (r : Rules V T) (read_once : (bytes : List ℕ) (a b : V) → r.reads bytes a → r.reads bytes b → a ≡ b) (s t : Store V M) (limits : t.limits ≡ s.limits) where

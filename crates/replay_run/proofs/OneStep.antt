@@ -1,15 +1,15 @@
 -- A step of a client leads to one scene.
-use Rattle.std.proofs.Common.{◌≡◌, ◌∙◌, inl, inr, ℕ, true, false, List, Option, Some, is_some, slice_set, sym, ap, subst}
+use Rattle.std.proofs.Common.{◌≡◌, ◌∙◌, inl, inr, ℕ, true, false, List, Option, Some, is_some, slice_set, refl, sym, ap, subst}
 use Rattle.shelf.specs.declared.store.Store.{Store}
 use Rattle.shelf.specs.Rules.{Rules}
 use Rattle.shelf.proofs.Bools.{never}
-use Rattle.step_table.specs.Calls.{Call}
+use Rattle.step_table.specs.Calls.{Call, replied}
 use Rattle.step_table.specs.World.{World}
+use Rattle.step_table.proofs.OneTurn.{ComesTo, one_turn}
 use Rattle.replay_run.specs.Scene.{Client, Scene}
 use Rattle.replay_run.specs.Step.{Acts, Goes, Rests, Steps, at_work, behind_turn, has_work}
 use Rattle.replay_run.proofs.LineLemmas.{one_of}
-use Rattle.replay_run.proofs.OneTurn.{ComesTo, turn_once}
-use Rattle.replay_run.proofs.Outcomes.{Outcome, came}
+use Rattle.replay_run.proofs.Replies.{told_back, told_by}
 
 module _ {V T : Type 0} where
   -- the folder tells what it holds, and no call of it has failed
@@ -37,35 +37,30 @@ module _ {V T M : Type 0} (r : Rules V T) (read_once : (bytes : List ℕ) (a b :
     pub world : x ≡ y
     pub steady : IsSteady x
 
+  act_comes : {u : Store V M} (client client_x : Client V T) (w x : World V T) → IsSteady w → (a : Acts r u client w client_x x) → ComesTo w a.call r u (replied a.gave) x a.call_after
+  act_comes client client_x w x steady a =
+      record { turn = a.turn; memory = λ short. a.memory (sym (told_back V a.gave) ∙ ap told_by short); unfailed = a.unfailed ∙ steady.unfailed }
+
   acts_once : (client client_x client_y : Client V T) (w x y : World V T) → IsSteady w → Acts r s client w client_x x → Acts r t client w client_y y → ActOnce client_x client_y x y
   acts_once client client_x client_y w x y steady a b =
       let call : b.call ≡ a.call = one_of b.call a.call (sym b.works ∙ a.works) in
-      let o : Outcome V T = came a.gave x a.call_after in
-      let p : Outcome V T = came b.gave y b.call_after in
-      let comes : ComesTo r s w a.call o = record { turn = a.turn; memory = a.memory; unfailed = a.unfailed } in
-      let others : ComesTo r t w b.call p = record { turn = b.turn; memory = b.memory; unfailed = b.unfailed } in
-      let one = turn_once r w a.call read_once steady.told steady.unfailed s t limits o p comes (subst (λ (c : Call V T). ComesTo r t w c p) call others) in
+      let other = subst (λ (c : Call V T). ComesTo w c r t (replied b.gave) y b.call_after) call (act_comes client client_y w y steady b) in
+      let one = one_turn r read_once w steady.told a.call x y a.call_after b.call_after s t limits (replied a.gave) (replied b.gave) (act_comes client client_x w x steady a) other in
+      let gave : a.gave ≡ b.gave = sym (told_back V a.gave) ∙ ap told_by one.gave ∙ told_back V b.gave in
       record {
-        client =
-            a.now
-            ∙ (ap (λ (z : Outcome V T). behind_turn (at_work client) a.call z.gave z.call) one.same
-            ∙ (ap (λ (c : Call V T). behind_turn (at_work client) c b.gave b.call_after) (sym call) ∙ sym b.now));
-        world = ap (λ (z : Outcome V T). z.world) one.same;
-        steady = record { told = one.told ∙ steady.told; unfailed = a.unfailed ∙ steady.unfailed };
+        client = a.now ∙ (rw (gave, one.call, call) refl) ∙ sym b.now;
+        world = one.world;
+        steady = record { told = ap (λ (z : World V T). z.told) a.turn.comes.world ∙ steady.told; unfailed = a.unfailed ∙ steady.unfailed };
       }
-
-  scene_of : (x y : Scene V T) → x.world ≡ y.world → x.clients ≡ y.clients → x ≡ y
-  scene_of x y world clients = ap (λ (w : World V T). record { world = w; clients = x.clients }) world ∙ ap (λ (cs : List (Client V T)). record { world = y.world; clients = cs }) clients
 
   steps_once : (place : ℕ) (old x y : Scene V T) → IsSteady old.world → Steps r s place old x → Steps r t place old y → IsOneScene x y
   steps_once place old x y steady a b =
       let client : b.client ≡ a.client = one_of b.client a.client (sym b.was ∙ a.was) in
       let acts : Acts r t a.client old.world b.client_after y.world = subst (λ (c : Client V T). Acts r t c old.world b.client_after y.world) client b.acts in
       let one = acts_once a.client a.client_after b.client_after old.world x.world y.world steady a.acts acts in
-      record {
-        same = scene_of x y one.world (a.now ∙ (ap (λ (c : Client V T). slice_set old.clients place c) one.client ∙ sym b.now));
-        steady = one.steady;
-      }
+      let world : x.world ≡ y.world = one.world in
+      let clients : x.clients ≡ y.clients = a.now ∙ (ap (λ (c : Client V T). slice_set old.clients place c) one.client ∙ sym b.now) in
+      record { same = rw (world, clients) refl; steady = one.steady }
 
   -- what a step is, it is for a client that has something to do
   none_steps : {X : Type 0} {u v : Store V M} (place : ℕ) (old x y : Scene V T) → Steps r u place old x → Rests r v place old y → X

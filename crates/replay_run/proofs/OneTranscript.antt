@@ -75,17 +75,12 @@ line_once x y a is also =
     let one = line_tells x a is in
     let other = line_tells y a also in
     let answer : x.answer ≡ y.answer = one_of x.answer y.answer (sym (telling_back x.answer a.answer one.result) ∙ telling_back y.answer a.answer other.result) in
-    ap (λ (call : CallId). record x { call = call }) (one.call ∙ sym other.call)
-    ∙ (ap (λ (poster : Option CallId). record x { call = y.call; poster = poster }) (one.poster ∙ sym other.poster) ∙ ap (λ (answer : AnswerSeen). record y { answer = answer }) answer)
+    let call : x.call ≡ y.call = one.call ∙ sym other.call in
+    let poster : x.poster ≡ y.poster = one.poster ∙ sym other.poster in
+    rw (call, poster, answer) refl
 
 orders_once : {T : Type 0} (x y : List (Order T)) → map (λ (order : Order T). Some order) x ≡ map (λ (order : Order T). Some order) y → x ≡ y
 orders_once x y same = read_alike (λ order. Some order) (λ a b c is also. one_of a b (is ∙ sym also)) x y y same refl
-
-session_is : (x y : SessionSeen) → x.base ≡ y.base → x.answers ≡ y.answers → x.entries ≡ y.entries → x.file ≡ y.file → x ≡ y
-session_is x y base answers entries file =
-    ap (λ (b : BaseSeen (List PrefPair)). record x { base = b }) base
-    ∙ (ap (λ (lines : List AnswerLineSeen). record x { base = y.base; answers = lines }) answers
-    ∙ (ap (λ (es : List PrefEntry). record x { base = y.base; answers = y.answers; entries = es }) entries ∙ ap (λ (f : FileSeen). record y { file = f }) file))
 
 module _ (b : Basis) (read_once : (bytes : List ℕ) (x y : List PrefPair) → b.rules.reads bytes x → b.rules.reads bytes y → x ≡ y) (script : Script) where
   abbrev store_now : SessionPlan → SessionSeen → Store (List PrefPair) (Unit {0})
@@ -96,7 +91,11 @@ module _ (b : Basis) (read_once : (bytes : List ℕ) (x y : List PrefPair) → b
 
   -- what is told of an end is one session but for its base
   told_once : (x y : SessionSeen) (end : Scene (List PrefPair) (List EditStep)) → x.base ≡ y.base → Tells b x end → Tells b y end → x ≡ y
-  told_once x y end base one other = session_is x y base (read_alike answered_of line_once x.answers y.answers (all_answers end) one.answers other.answers) (one.entries ∙ sym other.entries) (one.file ∙ sym other.file)
+  told_once x y end base one other =
+      let answers : x.answers ≡ y.answers = read_alike answered_of line_once x.answers y.answers (all_answers end) one.answers other.answers in
+      let entries : x.entries ≡ y.entries = one.entries ∙ sym other.entries in
+      let file : x.file ≡ y.file = one.file ∙ sym other.file in
+      rw (base, answers, entries, file) refl
 
   played_once : (plan : SessionPlan) (x y : SessionSeen) → IsPlayedSo plan x → IsPlayedSo plan y → x ≡ y
   played_once plan x y one other =
@@ -113,12 +112,11 @@ module _ (b : Basis) (read_once : (bytes : List ℕ) (x y : List PrefPair) → b
   one_plan : (x y : SessionPlan) → script.sessions ≡ x ∷ [] → script.sessions ≡ y ∷ [] → x ≡ y
   one_plan x y is also = let same : x ∷ [] ≡ y ∷ [] = sym is ∙ also in cc
 
-  transcript_is : (x y : Transcript) → x.names ≡ y.names → x.sessions ≡ y.sessions → x ≡ y
-  transcript_is x y names sessions = ap (λ (n : Names). record x { names = n }) names ∙ ap (λ (ss : List SessionSeen). record y { sessions = ss }) sessions
-
   -- the transcript of a run of the script is one
   pub runs_once : (x y : Transcript) → Runs b script x → Runs b script y → x ≡ y
   runs_once x y one other =
       let plan : other.plan ≡ one.plan = one_plan other.plan one.plan other.one_plan one.one_plan in
       let told : one.told ≡ other.told = played_once one.plan one.told other.told one.played (subst (λ (p : SessionPlan). IsPlayedSo p other.told) plan other.played) in
-      transcript_is x y (one.names ∙ sym other.names) (one.one_told ∙ (ap (λ (t : SessionSeen). t ∷ []) told ∙ sym other.one_told))
+      let names : x.names ≡ y.names = one.names ∙ sym other.names in
+      let sessions : x.sessions ≡ y.sessions = one.one_told ∙ (ap (λ (t : SessionSeen). t ∷ []) told ∙ sym other.one_told) in
+      rw (names, sessions) refl

@@ -16,10 +16,10 @@ use Rattle.shelf.specs.AddsNode.{is_among}
 use Rattle.shelf.specs.ShelfSeen.{shelf_seen}
 use Rattle.replay_run.specs.declared.client.Client as own_client
 use Rattle.replay_run.specs.declared.prefs_parts.PrefsParts.{PrefsParts}
-use Rattle.replay_run.specs.NewClients.{AreNew, resting}
+use Rattle.replay_run.specs.NewClients.{AreNew}
 use Rattle.replay_run.specs.Run.{new_client, new_clients}
 use Rattle.replay_run.specs.Scene.{Client}
-use Rattle.replay_run.specs.StageView.{Change, EquippedIn, IsEquipped, Running, Value, answered_seen, client_in, is_initialised, running_seen}
+use Rattle.replay_run.specs.StageView.{Change, EquippedIn, IsEquipped, Running, Value, answered_seen, client_seen}
 
 -- the nodes with so many numbers from this one on
 abbrev nodes_from : ℕ → ℕ → List NodeId
@@ -65,18 +65,18 @@ same_tail x y xs ys same = cc
 nothing_left : {X : Type 0} (x : X) (xs : List X) → x ∷ xs ≡ [] → ⊥
 nothing_left x xs same = cc
 
-homes_from : (P : NodeId → Type 0) (first : ℕ) (clients : List own_client.Client) (homes : List NodeId) → map resting clients ≡ map (λ placed. new_client placed.0 placed.1) (enumerate_from first homes)
+homes_from : (P : NodeId → Type 0) (first : ℕ) (clients : List own_client.Client) (homes : List NodeId) → map client_seen clients ≡ map (λ placed. new_client placed.0 placed.1) (enumerate_from first homes)
     → All P homes → All (λ (client : own_client.Client). P client.node) clients
 homes_from P first [] homes seen all = All-nil (λ (client : own_client.Client). P client.node)
-homes_from P first (client ∷ clients) [] seen all = absurd (nothing_left (resting client) (map resting clients) seen)
+homes_from P first (client ∷ clients) [] seen all = absurd (nothing_left (client_seen client) (map client_seen clients) seen)
 homes_from P first (client ∷ clients) (home ∷ homes) seen all =
     let rest : List (Client Value Change) = map (λ placed. new_client placed.0 placed.1) (enumerate_from (first + 1) homes) in
-    let node : client.node ≡ home = ap (λ (c : Client Value Change). c.node) (same_head (resting client) (new_client first home) (map resting clients) rest seen) in
+    let node : client.node ≡ home = ap (λ (c : Client Value Change). c.node) (same_head (client_seen client) (new_client first home) (map client_seen clients) rest seen) in
     All-cons (λ (client : own_client.Client). P client.node) client clients (subst P (sym node) (All-head P home homes all))
-    (homes_from P (first + 1) clients homes (same_tail (resting client) (new_client first home) (map resting clients) rest seen) (All-tail P home homes all))
+    (homes_from P (first + 1) clients homes (same_tail (client_seen client) (new_client first home) (map client_seen clients) rest seen) (All-tail P home homes all))
 
 -- new clients are at home on their nodes
-pub homes_are : (P : NodeId → Type 0) (clients : List own_client.Client) (homes : List NodeId) → map resting clients ≡ map (λ placed. new_client placed.0 placed.1) (enumerate_from 0 homes)
+pub homes_are : (P : NodeId → Type 0) (clients : List own_client.Client) (homes : List NodeId) → map client_seen clients ≡ map (λ placed. new_client placed.0 placed.1) (enumerate_from 0 homes)
     → All P homes → All (λ (client : own_client.Client). P client.node) clients
 homes_are P = homes_from P 0
 
@@ -91,10 +91,10 @@ new_more homes home =
     let client : ℕ × NodeId → Client Value Change = λ placed. new_client placed.0 placed.1 in
     ap (map client) (numbered_more 0 homes home) ∙ (map_push client (enumerate_from 0 homes) (0 + length homes, home) ∙ ap (λ n. new_clients homes ++ new_client n home ∷ []) (omega arith))
 
-resting_new : (place : ℕ) (home : NodeId) (client : own_client.Client) → client ≡ record { id = record { 0 = place }; node = home; edits = client.edits; begun = 0; running = None; answered = client.answered }
-    → client.edits.items ≡ [] → client.answered.items ≡ [] → resting client ≡ new_client place home
-resting_new place home client is unasked unanswered =
-    ap resting is
+seen_new : (place : ℕ) (home : NodeId) (client : own_client.Client) → client ≡ record { id = record { 0 = place }; node = home; edits = client.edits; begun = 0; running = None; answered = client.answered }
+    → client.edits.items ≡ [] → client.answered.items ≡ [] → client_seen client ≡ new_client place home
+seen_new place home client is unasked unanswered =
+    ap client_seen is
     ∙ (ap (λ edits. record (new_client place home) { edits = map (λ edit. edit.now) edits; answered = map answered_seen client.answered.items }) unasked
     ∙ ap (λ list. record (new_client place home) { answered = map answered_seen list }) unanswered)
 
@@ -109,30 +109,18 @@ one_more homes place d within clients client is unasked unanswered new =
     let none : length client.edits.items ≡ 0 = ap length unasked in
     record {
       seen =
-          map_push resting clients client
-          ∙ (ap (λ list. list ++ resting client ∷ []) new.seen
-          ∙ (ap (λ c. new_clients (take place homes) ++ c ∷ []) (resting_new place home client is unasked unanswered ∙ ap (λ n. new_client n home) (sym so_far))
+          map_push client_seen clients client
+          ∙ (ap (λ list. list ++ client_seen client ∷ []) new.seen
+          ∙ (ap (λ c. new_clients (take place homes) ++ c ∷ []) (seen_new place home client is unasked unanswered ∙ ap (λ n. new_client n home) (sym so_far))
           ∙ (sym (new_more (take place homes) home) ∙ ap new_clients (sym all))));
       rest = All-push (λ (client : own_client.Client). client.running ≡ None) clients client new.rest (ap (λ (c : own_client.Client). c.running) is);
       unasked = All-push (λ (client : own_client.Client). vec_len client.edits ≤ 0) clients client new.unasked (omega (arith, client.edits.ok.0, none));
     }
 
 module _ {c : codec_trait.Ghosts PrefsCodec Value} {t : transform_trait.Ghosts Change Value} {f : folder_trait.Ghosts MemFolder} (shelf : Shelf (PrefsParts MemFolder) PrefsCodec Change MemFolder Value c t f) where
-  rests : (client : own_client.Client) → client.running ≡ None → client_in shelf client ≡ resting client
-  rests client none = ap (λ (running : Option Running). record (resting client) { running = running_seen f (shelf_seen shelf) running; initialised = is_initialised running }) none
+  equipped_idle : (client : own_client.Client) → client.running ≡ None → EquippedIn shelf client
+  equipped_idle client none = subst (λ (running : Option Running). IsEquipped c t f (shelf_seen shelf) running) (sym none) tt
 
-  -- clients of whom no call runs are seen alike over every shelf
-  pub all_rest : (clients : List own_client.Client) → All (λ (client : own_client.Client). client.running ≡ None) clients → map (λ client. client_in shelf client) clients ≡ map resting clients
-  all_rest [] none = refl
-  all_rest (client ∷ clients) none =
-      let idle : own_client.Client → Type 0 = λ client. client.running ≡ None in
-      let first : client_in shelf client ≡ resting client = rests client (All-head idle client clients none) in
-      let behind : map (λ client. client_in shelf client) clients ≡ map resting clients = all_rest clients (All-tail idle client clients none) in
-      ap (λ (x : Client Value Change). x ∷ map (λ client. client_in shelf client) clients) first ∙ ap (λ (xs : List (Client Value Change)). resting client ∷ xs) behind
-
-  equipped_resting : (client : own_client.Client) → client.running ≡ None → EquippedIn shelf client
-  equipped_resting client none = subst (λ (running : Option Running). IsEquipped c t f (shelf_seen shelf) running) (sym none) tt
-
-  -- and need no memory
+  -- clients of whom no call runs need no memory
   pub all_equipped : (clients : List own_client.Client) → All (λ (client : own_client.Client). client.running ≡ None) clients → All (λ (client : own_client.Client). EquippedIn shelf client) clients
-  all_equipped clients none = λ place d within. equipped_resting (slice_index_or clients place d) (none place d within)
+  all_equipped clients none = λ place d within. equipped_idle (slice_index_or clients place d) (none place d within)

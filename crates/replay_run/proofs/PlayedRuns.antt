@@ -1,321 +1,171 @@
 -- A run of the small store is shown by computing it.
-use Rattle.std.proofs.Common.{◌≡◌, ◌∙◌, inl, inr, ℕ, suc, zero, ◌+◌, ◌==◌, ◌-◌, ◌^◌, nat_lt, nat_le, Bool, true, false, ◌&&◌, not, List, [], ◌∷◌, Option, Some, None, refl, sym, ap, arith, length, slice_get, slice_set, if◌then◌else◌, Result, Ok, Err}
-use Rattle.std.proofs.lemmas.Bool.{eqb-true, and_parts as both_parts, not-true as not_true}
-use Rattle.std.proofs.lemmas.Bool.Decides.{nat_tests}
-use Rattle.store_traits.specs.declared.applied.Applied.{Applied}
-use Rattle.store_traits.specs.declared.applied.Applied.TheVariants.{Changed, Refused}
+use Rattle.std.proofs.Common.{◌≡◌, inl, inr, ◌+◌, ◌==◌, ℕ, suc, zero, Bool, true, false, ◌&&◌, List, [], ◌∷◌, Option, Some, None, is_some, refl, length, slice_get, slice_set, Result}
+use Rattle.std.proofs.lemmas.Bool.{eqb-true, and_parts as both_parts}
 use Rattle.store_traits.specs.declared.ids.NodeId.{NodeId}
 use Rattle.store_traits.specs.declared.update_error.UpdateError.{UpdateError}
-use Rattle.store_traits.specs.declared.update_error.UpdateError.TheVariants as error
-use Rattle.folder_disk.specs.declared.call.FolderCall.TheVariants.{ReadMain}
-use Rattle.folder_disk.specs.Due as plan
-use Rattle.hist_journal.specs.Folds.{edition_of}
 use Rattle.shelf.specs.declared.examples.ExampleEdit.{ExampleEdit}
 use Rattle.shelf.specs.declared.store.Store.{Store}
-use Rattle.shelf.specs.Ledger.{freed}
-use Rattle.shelf.specs.ExampleStore.{after}
 use Rattle.shelf.proofs.Bools.{never}
-use Rattle.step_table.proofs.Tallied.{well_so, went_well}
 use Rattle.step_table.specs.declared.progress.Progress.{Progress}
-use Rattle.step_table.specs.declared.progress.Progress.TheVariants.{Moved, Blocked, Ended}
-use Rattle.step_table.specs.Calls.{At, Call, Reading, ended}
+use Rattle.step_table.specs.Calls.{Call, Reply}
+use Rattle.step_table.specs.Effects.{gave_by}
 use Rattle.step_table.specs.ExampleTurns.{rules}
-use Rattle.step_table.specs.Runs as shelf
-use Rattle.step_table.specs.Turn.{Turn, begin, dies_now, has_died_by}
-use Rattle.step_table.specs.World.{Turned, World}
-use Rattle.step_table.proofs.Played.{Run-computed, all_fine, scene_at}
-use Rattle.replay_run.specs.Order.{DoesAll, Does, Go, GoesTimes, Order, Task, Update, with_edit}
-use Rattle.replay_run.specs.Run.{GoesEach, IsOver, IsRun, Rounds, start_of}
+use Rattle.step_table.specs.World.{Turned}
+use Rattle.step_table.proofs.PlayedTurns.{effect, may_turn, turn_so, turned}
+use Rattle.replay_run.specs.Order.{Adds, DoesAll, Does, Go, GoesTimes, Order, Task, Update, with_edit}
+use Rattle.replay_run.specs.Run.{GoesEach, IsOver, IsRun, Round, Rounds, start_of}
 use Rattle.replay_run.specs.Scene.{Client, Scene}
 use Rattle.replay_run.specs.Step.{Goes, at_work, behind_turn}
+use Rattle.replay_run.proofs.Replies.{is_told, told_by, told_lasts, told_so}
 
-abbrev Gave : Type 0
-Gave = Progress (Result ℕ UpdateError)
+abbrev pub Small : Type 0
+Small = Scene ℕ ExampleEdit
 
--- a turn that is shown to follow the table
-record Played (s : Store ℕ (Unit {0})) (w : World ℕ ExampleEdit) (c : Call ℕ ExampleEdit) (gave : Gave) (after : World ℕ ExampleEdit) (call_after : Call ℕ ExampleEdit) : Type 0 where
-  pub turn : Turn rules s (record { world = w; call = c; world_after = after; call_after = call_after }) gave
+-- something that leads from scene to scene: where it leads, and whether it may be done
+pub record Computed (Leads : Small → Small → Type 0) : Type 0 where
+  pub to : Small → Small
+  pub fine : Small → Bool
+  pub so : (scene : Small) → fine scene ≡ true → Leads scene (to scene)
 
--- the code by which an edit is refused
-abbrev code_of : Applied ℕ → Option ℕ
-code_of (Changed new) = None
-code_of (Refused code) = Some code
+abbrev nothing : Computed (λ old new. new ≡ old)
+nothing = record { to = λ scene. scene; fine = λ scene. true; so = λ scene is. refl }
 
-abbrev refusal_by : At ℕ ExampleEdit → Option (List ℕ) → Option ℕ
-refusal_by (Reading edit) (Some (n ∷ [])) = code_of (after edit n)
-refusal_by at main = None
+abbrev both : {First Then : Small → Small → Type 0} → Computed First → Computed Then → Computed (λ old new. (between : Small) × First old between × Then between new)
+both first then =
+    record {
+      to = λ scene. then.to (first.to scene);
+      fine = λ scene. first.fine scene && then.fine (first.to scene);
+      so = λ scene is. let parts = both_parts (first.fine scene) (then.fine (first.to scene)) is in (first.to scene, first.so scene parts.0, then.so (first.to scene) parts.1);
+    }
 
-code_so : (made : Applied ℕ) (code : ℕ) → code_of made ≡ Some code → made ≡ Refused code
-code_so (Changed new) code is = absurd (let no : ◌≡◌ {A = Option ℕ} None (Some code) = is in cc)
-code_so (Refused found) code is = let same : ◌≡◌ {A = Option ℕ} (Some found) (Some code) = is in cc
+-- the client at this place has one more edit
+module _ (place : ℕ) (edit : ExampleEdit) where
+  abbrev added : Small → Option (Client ℕ ExampleEdit) → Small
+  added scene None = scene
+  added scene (Some client) = record scene { clients = slice_set scene.clients place (with_edit edit client) }
 
-none_refused : {X : Type 0} (code : ℕ) → ◌≡◌ {A = Option ℕ} None (Some code) → X
-none_refused code is = absurd cc
+  pub added_so : (scene : Small) (found : Option (Client ℕ ExampleEdit)) → slice_get scene.clients place ≡ found → is_some found ≡ true → Adds place edit scene (added scene found)
+  added_so scene None was fine = never fine
+  added_so scene (Some client) was fine = record { client = client; was = was; now = refl }
+
+  abbrev adds : Computed (Adds place edit)
+  adds =
+      record {
+        to = λ scene. added scene (slice_get scene.clients place);
+        fine = λ scene. is_some (slice_get scene.clients place);
+        so = λ scene fine. added_so scene (slice_get scene.clients place) refl fine;
+      }
 
 module _ (s : Store ℕ (Unit {0})) (none : s.migrations ≡ []) where
-  module _ (w : World ℕ ExampleEdit) (c : Call ℕ ExampleEdit) where
-    abbrev alone : shelf.Scene ℕ ExampleEdit
-    alone = record { world = w; calls = c ∷ [] }
-
-    abbrev one : Gave → List shelf.Did
-    one gave = record { place = 0; gave = gave } ∷ []
-
-    abbrev fits : Gave → Bool
-    fits gave = all_fine s none (one gave) alone
-
-    abbrev first_of : List (Call ℕ ExampleEdit) → Call ℕ ExampleEdit
-    first_of [] = c
-    first_of (call ∷ calls) = call
-
-    first_so : (call : Call ℕ ExampleEdit) → ◌≡◌ {A = Option (Call ℕ ExampleEdit)} (Some c) (Some call) → c ≡ call
-    first_so call is = cc
-
-    -- what a run of one turn is
-    played_by : (gave : Gave) (new : shelf.Scene ℕ ExampleEdit) → shelf.Run rules s (one gave) alone new → Played s w c gave new.world (first_of new.calls)
-    unfolding shelf.Run
-    played_by gave new run =
-        let goes = run.1 in
-        let same : c ≡ goes.call = first_so goes.call goes.was in
-        let after : new.world ≡ run.0.world = ap (λ (x : shelf.Scene ℕ ExampleEdit). x.world) run.2 in
-        let calls : new.calls ≡ goes.call_after ∷ [] = ap (λ (x : shelf.Scene ℕ ExampleEdit). x.calls) run.2 ∙ goes.now in
-        record { turn = rw (after, calls, same) goes.turn }
-
-    played : (gave : Gave) → fits gave ≡ true → Played s w c gave (scene_at s none (one gave) alone).world (first_of (scene_at s none (one gave) alone).calls)
-    played gave fine = played_by gave (scene_at s none (one gave) alone) (Run-computed s none (one gave) alone fine)
-
-    -- a turn in which the edit is refused
-    abbrev refused_world : World ℕ ExampleEdit
-    refused_world = record w { tally = went_well ReadMain w.tally; owner = freed c.id w.owner }
-
-    abbrev before : At ℕ ExampleEdit → Turned ℕ ExampleEdit
-    before at = record { world = w; call = record c { at = at }; world_after = refused_world; call_after = ended (begin (record { world = w; call = c; world_after = w; call_after = c })).call }
-
-    abbrev refusal : ℕ → Gave
-    refusal code = Ended (Err (error.Refused code (edition_of w.history)))
-
-    abbrev is_alive : At ℕ ExampleEdit → Bool
-    is_alive at = not (has_died_by (begin (before at))) && not (dies_now (begin (before at)))
-
-    -- main is read well
-    abbrev is_due : Bool
-    is_due = not (plan.fails ReadMain w.tally.due) && nat_lt w.tally.count (2 ^ 64 - 1)
-
-    refused : (at : At ℕ ExampleEdit) (main : Option (List ℕ)) (code : ℕ) → w.folder.main ≡ main → refusal_by at main ≡ Some code → is_alive at ≡ true → is_due ≡ true → nat_le 1 s.limits.file ≡ true → Turn rules s (before at) (refusal code)
-    refused (Reading edit) (Some (n ∷ [])) code is_main is alive due fits =
-        let lives = both_parts (not (has_died_by (begin (before (Reading edit))))) (not (dies_now (begin (before (Reading edit))))) alive in
-        let not_dead : has_died_by (begin (before (Reading edit))) ≡ false = not_true _ lives.0 in
-        let not_dying : dies_now (begin (before (Reading edit))) ≡ false = not_true _ lives.1 in
-        rw (not_dead, not_dying)
-        (record {
-          value = n;
-          read = λ told. rw is_main (grind (arith, nat_tests, fits), refl);
-          then = (code_so (after edit n) code is, refl, record { folder = λ told. refl; tally = well_so w.told ReadMain w.tally due; world = refl; call = refl });
-        })
-    refused (Reading edit) (Some (n ∷ m ∷ more)) code is_main is alive due fits = none_refused code is
-    refused (Reading edit) (Some []) code is_main is alive due fits = none_refused code is
-    refused (Reading edit) None code is_main is alive due fits = none_refused code is
-    refused at main code is_main is alive due fits = none_refused code is
-
-    -- what comes of a turn: where the edit is not refused, the first of these that follows the table
-    abbrev gives : Gave
-    gives = if fits Moved then Moved else if fits Blocked then Blocked else Ended (Ok (edition_of w.history))
-
-    abbrev gave_by : Option ℕ → Gave
-    gave_by (Some code) = refusal code
-    gave_by None = gives
-
-    abbrev world_by : Option ℕ → World ℕ ExampleEdit
-    world_by (Some code) = refused_world
-    world_by None = (scene_at s none (one gives) alone).world
-
-    abbrev call_by : Option ℕ → Call ℕ ExampleEdit
-    call_by (Some code) = (before c.at).call_after
-    call_by None = first_of (scene_at s none (one gives) alone).calls
-
-    abbrev is_answer : Gave → Bool
-    is_answer (Ended (Err error.NoMemory)) = false
-    is_answer other = true
-
-    abbrev right_by : Option ℕ → Bool
-    right_by (Some code) = (is_alive c.at && is_due) && nat_le 1 s.limits.file
-    right_by None = fits gives
-
-    abbrev code_now : Option ℕ
-    code_now = refusal_by c.at w.folder.main
-
-    abbrev is_right : Bool
-    is_right = (is_answer (gave_by code_now) && ((world_by code_now).tally.count == w.tally.count)) && right_by code_now
-
-    no_memory : (gave : Gave) → is_answer gave ≡ true → gave ≡ Ended (Err error.NoMemory) → ⊥
-    no_memory gave is same = let none_given : is_answer gave ≡ false = ap (λ (g : Gave). is_answer g) same in never (sym none_given ∙ is)
-
-    turn_so : (code : Option ℕ) → code_now ≡ code → right_by code ≡ true → Played s w c (gave_by code) (world_by code) (call_by code)
-    turn_so (Some code) is right =
-        let both = both_parts (is_alive c.at && is_due) (nat_le 1 s.limits.file) right in
-        let first = both_parts (is_alive c.at) is_due both.0 in
-        record { turn = refused c.at w.folder.main code refl is first.0 first.1 both.1 }
-    turn_so None is right = played gives right
-
   -- the client at this place goes
-  module _ (place : ℕ) (scene : Scene ℕ ExampleEdit) where
-    abbrev gone_by : Client ℕ ExampleEdit → Option (Call ℕ ExampleEdit) → Scene ℕ ExampleEdit
-    gone_by client None = scene
-    gone_by client (Some call) =
-        record {
-          world = world_by scene.world call (code_now scene.world call);
-          clients =
-              slice_set scene.clients place
-              (behind_turn (at_work client) call (gave_by scene.world call (code_now scene.world call)) (call_by scene.world call (code_now scene.world call)));
-        }
+  module _ (place : ℕ) (scene : Small) where
+    abbrev turned_of : Call ℕ ExampleEdit → Turned ℕ ExampleEdit
+    turned_of call = turned s none scene.world call
 
-    abbrev fine_by : Client ℕ ExampleEdit → Option (Call ℕ ExampleEdit) → Bool
-    fine_by client None = true
-    fine_by client (Some call) = is_right scene.world call
+    abbrev given : Call ℕ ExampleEdit → Progress (Reply ℕ)
+    given call = gave_by (effect s none scene.world call).next
 
-    abbrev found_goes : Option (Client ℕ ExampleEdit) → Scene ℕ ExampleEdit
-    found_goes None = scene
-    found_goes (Some client) = gone_by client (at_work client).running
+    abbrev behind : Client ℕ ExampleEdit → Call ℕ ExampleEdit → Client ℕ ExampleEdit
+    behind client call = behind_turn (at_work client) call (told_by (given call)) (turned_of call).call_after
 
-    abbrev found_fine : Option (Client ℕ ExampleEdit) → Bool
-    found_fine None = false
-    found_fine (Some client) = fine_by client (at_work client).running
+    abbrev gone : Client ℕ ExampleEdit → Option (Call ℕ ExampleEdit) → Small
+    gone client None = scene
+    gone client (Some call) = record { world = (turned_of call).world_after; clients = slice_set scene.clients place (behind client call) }
 
-    abbrev goes : Scene ℕ ExampleEdit
-    goes = found_goes (slice_get scene.clients place)
+    -- memory lasts, and no call of the folder fails
+    abbrev is_smooth : Call ℕ ExampleEdit → Bool
+    is_smooth call = is_told (given call) && ((turned_of call).world_after.tally.count == scene.world.tally.count)
 
-    abbrev may_go : Bool
-    may_go = found_fine (slice_get scene.clients place)
+    abbrev may_go : Option (Call ℕ ExampleEdit) → Bool
+    may_go None = true
+    may_go (Some call) = may_turn s none scene.world call && is_smooth call
 
-    gone_so : (client : Client ℕ ExampleEdit) (running : Option (Call ℕ ExampleEdit)) → slice_get scene.clients place ≡ Some client → (at_work client).running ≡ running → fine_by client running ≡ true
-        → Goes rules s place scene (gone_by client running)
+    gone_so : (client : Client ℕ ExampleEdit) (running : Option (Call ℕ ExampleEdit)) → slice_get scene.clients place ≡ Some client → (at_work client).running ≡ running → may_go running ≡ true
+        → Goes rules s place scene (gone client running)
     gone_so client None was works fine = inr (record { client = client; was = was; nothing = rw works refl; same = refl })
     gone_so client (Some call) was works fine =
-        let code = code_now scene.world call in
-        let gave = gave_by scene.world call code in
-        let both = both_parts (is_answer scene.world call gave && ((world_by scene.world call code).tally.count == scene.world.tally.count)) (right_by scene.world call code) fine in
-        let first = both_parts (is_answer scene.world call gave) ((world_by scene.world call code).tally.count == scene.world.tally.count) both.0 in
+        let parts = both_parts (may_turn s none scene.world call) (is_smooth call) fine in
+        let smooth = both_parts (is_told (given call)) ((turned_of call).world_after.tally.count == scene.world.tally.count) parts.1 in
         inl
         (record {
           client = client;
-          client_after = behind_turn (at_work client) call (gave_by scene.world call code) (call_by scene.world call code);
+          client_after = behind client call;
           was = was;
           acts =
               record {
                 call = call;
-                call_after = call_by scene.world call code;
-                gave = gave_by scene.world call code;
+                call_after = (turned_of call).call_after;
+                gave = told_by (given call);
                 works = works;
-                turn = (turn_so scene.world call code refl both.1).turn;
-                memory = no_memory scene.world call gave first.0;
-                unfailed = eqb-true (world_by scene.world call code).tally.count scene.world.tally.count first.1;
+                turn = rw (told_so (given call) smooth.0) (turn_so s none scene.world call parts.0);
+                memory = told_lasts (given call) smooth.0;
+                unfailed = eqb-true (turned_of call).world_after.tally.count scene.world.tally.count smooth.1;
                 now = refl;
               };
           now = refl;
         })
 
-    goes_so : (found : Option (Client ℕ ExampleEdit)) → slice_get scene.clients place ≡ found → found_fine found ≡ true → Goes rules s place scene (found_goes found)
-    goes_so None was fine = never fine
-    goes_so (Some client) was fine = gone_so client (at_work client).running was refl fine
+    abbrev found_gone : Option (Client ℕ ExampleEdit) → Small
+    found_gone None = scene
+    found_gone (Some client) = gone client (at_work client).running
 
-  abbrev goes_times : ℕ → ℕ → Scene ℕ ExampleEdit → Scene ℕ ExampleEdit
-  goes_times place zero scene = scene
-  goes_times place (suc steps) scene = goes_times place steps (goes place scene)
+    abbrev found_may_go : Option (Client ℕ ExampleEdit) → Bool
+    found_may_go None = false
+    found_may_go (Some client) = may_go (at_work client).running
 
-  abbrev may_go_times : ℕ → ℕ → Scene ℕ ExampleEdit → Bool
-  may_go_times place zero scene = true
-  may_go_times place (suc steps) scene = may_go place scene && may_go_times place steps (goes place scene)
+    pub found_so : (found : Option (Client ℕ ExampleEdit)) → slice_get scene.clients place ≡ found → found_may_go found ≡ true → Goes rules s place scene (found_gone found)
+    found_so None was fine = never fine
+    found_so (Some client) was fine = gone_so client (at_work client).running was refl fine
 
-  times_so : (place steps : ℕ) (scene : Scene ℕ ExampleEdit) → may_go_times place steps scene ≡ true → GoesTimes rules s place steps scene (goes_times place steps scene)
+  abbrev goes : (place : ℕ) → Computed (Goes rules s place)
+  goes place =
+      record {
+        to = λ scene. found_gone place scene (slice_get scene.clients place);
+        fine = λ scene. found_may_go place scene (slice_get scene.clients place);
+        so = λ scene fine. found_so place scene (slice_get scene.clients place) refl fine;
+      }
+
+  -- orders
+  unfoldable pub times : (place steps : ℕ) → Computed (GoesTimes rules s place steps)
   unfolding GoesTimes
-  times_so place zero scene fine = refl
-  times_so place (suc steps) scene fine =
-      let both = both_parts (may_go place scene) (may_go_times place steps (goes place scene)) fine in
-      (goes place scene, goes_so place scene (slice_get scene.clients place) refl both.0, times_so place steps (goes place scene) both.1)
+  times place zero = nothing
+  times place (suc steps) = both (goes place) (times place steps)
 
-  module _ (place : ℕ) (scene : Scene ℕ ExampleEdit) where
-    abbrev adds_by : ExampleEdit → Option (Client ℕ ExampleEdit) → Scene ℕ ExampleEdit
-    adds_by edit None = scene
-    adds_by edit (Some client) = record scene { clients = slice_set scene.clients place (with_edit edit client) }
+  abbrev done : (place : ℕ) (task : Task ExampleEdit) → Computed (Does rules s place task)
+  done place (Update edit) = adds place edit
+  done place (Go steps) = times place steps
 
-    abbrev is_there : Option (Client ℕ ExampleEdit) → Bool
-    is_there None = false
-    is_there (Some client) = true
-
-    abbrev done : Task ExampleEdit → Scene ℕ ExampleEdit
-    done (Update edit) = adds_by edit (slice_get scene.clients place)
-    done (Go steps) = goes_times place steps scene
-
-    abbrev may_do : Task ExampleEdit → Bool
-    may_do (Update edit) = is_there (slice_get scene.clients place)
-    may_do (Go steps) = may_go_times place steps scene
-
-    adds_so : (edit : ExampleEdit) (found : Option (Client ℕ ExampleEdit)) → slice_get scene.clients place ≡ found → is_there found ≡ true → Does rules s place (Update edit) scene (adds_by edit found)
-    adds_so edit None was fine = never fine
-    adds_so edit (Some client) was fine = record { client = client; was = was; now = refl }
-
-    done_so : (task : Task ExampleEdit) → may_do task ≡ true → Does rules s place task scene (done task)
-    done_so (Update edit) fine = adds_so edit (slice_get scene.clients place) refl fine
-    done_so (Go steps) fine = times_so place steps scene fine
-
-  -- where orders and rounds lead, and whether each step of them follows the table
-  abbrev all_done : List (Order ExampleEdit) → Scene ℕ ExampleEdit → Scene ℕ ExampleEdit
-  all_done [] scene = scene
-  all_done (order ∷ orders) scene = all_done orders (done order.place scene order.task)
-
-  abbrev may_do_all : List (Order ExampleEdit) → Scene ℕ ExampleEdit → Bool
-  may_do_all [] scene = true
-  may_do_all (order ∷ orders) scene = may_do order.place scene order.task && may_do_all orders (done order.place scene order.task)
-
-  DoesAll-computed : (orders : List (Order ExampleEdit)) (scene : Scene ℕ ExampleEdit) → may_do_all orders scene ≡ true → DoesAll rules s orders scene (all_done orders scene)
+  unfoldable pub all_done : (orders : List (Order ExampleEdit)) → Computed (DoesAll rules s orders)
   unfolding DoesAll
-  DoesAll-computed [] scene fine = refl
-  DoesAll-computed (order ∷ orders) scene fine =
-      let both = both_parts (may_do order.place scene order.task) (may_do_all orders (done order.place scene order.task)) fine in
-      (done order.place scene order.task, done_so order.place scene order.task both.0, DoesAll-computed orders (done order.place scene order.task) both.1)
+  all_done [] = nothing
+  all_done (order ∷ orders) = both (done order.place order.task) (all_done orders)
 
-  abbrev each_gone : (place clients : ℕ) → Scene ℕ ExampleEdit → Scene ℕ ExampleEdit
-  each_gone place zero scene = scene
-  each_gone place (suc clients) scene = each_gone (place + 1) clients (goes place scene)
-
-  abbrev may_each_go : (place clients : ℕ) → Scene ℕ ExampleEdit → Bool
-  may_each_go place zero scene = true
-  may_each_go place (suc clients) scene = may_go place scene && may_each_go (place + 1) clients (goes place scene)
-
-  each_so : (place clients : ℕ) (scene : Scene ℕ ExampleEdit) → may_each_go place clients scene ≡ true → GoesEach rules s place clients scene (each_gone place clients scene)
+  -- rounds
+  unfoldable pub each : (place clients : ℕ) → Computed (GoesEach rules s place clients)
   unfolding GoesEach
-  each_so place zero scene fine = refl
-  each_so place (suc clients) scene fine =
-      let both = both_parts (may_go place scene) (may_each_go (place + 1) clients (goes place scene)) fine in
-      (goes place scene, goes_so place scene (slice_get scene.clients place) refl both.0, each_so (place + 1) clients (goes place scene) both.1)
+  each place zero = nothing
+  each place (suc clients) = both (goes place) (each (place + 1) clients)
 
-  abbrev rounds_gone : ℕ → Scene ℕ ExampleEdit → Scene ℕ ExampleEdit
-  rounds_gone zero scene = scene
-  rounds_gone (suc rounds) scene = rounds_gone rounds (each_gone 0 (length scene.clients) scene)
+  abbrev round : Computed (Round rules s)
+  round =
+      record {
+        to = λ scene. (each 0 (length scene.clients)).to scene;
+        fine = λ scene. (each 0 (length scene.clients)).fine scene;
+        so = λ scene fine. (each 0 (length scene.clients)).so scene fine;
+      }
 
-  abbrev may_go_round : ℕ → Scene ℕ ExampleEdit → Bool
-  may_go_round zero scene = true
-  may_go_round (suc rounds) scene = may_each_go 0 (length scene.clients) scene && may_go_round rounds (each_gone 0 (length scene.clients) scene)
-
-  Rounds-computed : (rounds : ℕ) (scene : Scene ℕ ExampleEdit) → may_go_round rounds scene ≡ true → Rounds rules s rounds scene (rounds_gone rounds scene)
+  unfoldable pub rounds_done : (rounds : ℕ) → Computed (Rounds rules s rounds)
   unfolding Rounds
-  Rounds-computed zero scene fine = refl
-  Rounds-computed (suc rounds) scene fine =
-      let both = both_parts (may_each_go 0 (length scene.clients) scene) (may_go_round rounds (each_gone 0 (length scene.clients) scene)) fine in
-      (each_gone 0 (length scene.clients) scene, each_so 0 (length scene.clients) scene both.0, Rounds-computed rounds (each_gone 0 (length scene.clients) scene) both.1)
+  rounds_done zero = nothing
+  rounds_done (suc rounds) = both round (rounds_done rounds)
 
   module _ (homes : List NodeId) (orders : List (Order ExampleEdit)) (rounds : ℕ) where
-    abbrev start : Scene ℕ ExampleEdit
+    abbrev start : Small
     start = start_of s homes
 
-    abbrev ordered : Scene ℕ ExampleEdit
-    ordered = all_done orders start
+    abbrev ordered : Small
+    ordered = (all_done orders).to start
 
-    pub IsRun-computed : may_do_all orders start ≡ true → may_go_round rounds ordered ≡ true → IsOver (rounds_gone rounds ordered) → IsRun rules s homes orders (rounds_gone rounds ordered)
+    pub IsRun-computed : (all_done orders).fine start ≡ true → (rounds_done rounds).fine ordered ≡ true → IsOver ((rounds_done rounds).to ordered) → IsRun rules s homes orders ((rounds_done rounds).to ordered)
     IsRun-computed fine goes_on over =
-        record {
-          between = ordered;
-          ordered = DoesAll-computed orders start fine;
-          rounds = rounds;
-          rest = Rounds-computed rounds ordered goes_on;
-          over = over;
-        }
+        record { between = ordered; ordered = (all_done orders).so start fine; rounds = rounds; rest = (rounds_done rounds).so ordered goes_on; over = over }

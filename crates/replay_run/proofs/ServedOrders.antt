@@ -1,5 +1,5 @@
 -- In the end of a run the clients have been asked for what the orders say.
-use Rattle.std.proofs.Common.{◌≡◌, ◌∙◌, inl, inr, ◌+◌, ◌==◌, ℕ, suc, zero, Bool, true, false, List, [], ◌∷◌, ◌++◌, append_assoc, append-nil, Option, Some, None, slice_get, refl, sym, ap, subst, if◌then◌else◌, Result}
+use Rattle.std.proofs.Common.{◌≡◌, ◌∙◌, inl, inr, ◌==◌, ℕ, Bool, true, false, List, [], ◌∷◌, ◌++◌, append_assoc, append-nil, Option, Some, None, slice_get, refl, sym, ap, subst, if◌then◌else◌, Result}
 use Rattle.std.proofs.lemmas.Bool.{eq-eqb, ne_eqb as unequal}
 use Rattle.std.proofs.lemmas.List.Concat.{flat_map-append}
 use Rattle.store_traits.specs.declared.ids.NodeId.{NodeId}
@@ -9,10 +9,11 @@ use Rattle.step_table.specs.declared.progress.Progress.TheVariants.{Moved, Block
 use Rattle.shelf.specs.declared.store.Store.{Store}
 use Rattle.step_table.specs.Calls.{Call}
 use Rattle.shelf.specs.Rules.{Rules}
-use Rattle.replay_run.specs.Order.{Adds, AreServed, Does, DoesAll, Go, GoesTimes, IsServed, Order, Task, Update, edits_for, task_edits, with_edit}
-use Rattle.replay_run.specs.Run.{GoesEach, IsRun, Rounds, start_of}
+use Rattle.replay_run.specs.Order.{Adds, AreServed, Does, DoesAll, Go, IsServed, Order, Task, Update, edits_for, task_edits, with_edit}
+use Rattle.replay_run.specs.Run.{IsRun, start_of}
 use Rattle.replay_run.specs.Scene.{Client, Scene}
 use Rattle.replay_run.specs.Step.{Goes, at_work, begin_next, behind_turn}
+use Rattle.replay_run.proofs.RunKeeps.{rounds_keep, times_keep}
 use Rattle.replay_run.proofs.SetLemmas.{found_then}
 use Rattle.replay_run.proofs.StepKeeps.{new_from}
 
@@ -49,21 +50,6 @@ module _ {V T M : Type 0} (r : Rules V T) (s : Store V M) (homes : List NodeId) 
         | inr there ↦ served other c there.1
       ]
 
-  times_serves : (orders : List (Order T)) (place steps : ℕ) (old new : Scene V T) → GoesTimes r s place steps old new → AreServed homes orders old → AreServed homes orders new
-  unfolding GoesTimes
-  times_serves orders place zero old new it served = subst (λ scene. AreServed homes orders scene) (sym it) served
-  times_serves orders place (suc steps) old new it served = times_serves orders place steps it.0 new it.2 (goes_serves orders place old it.0 it.1 served)
-
-  each_serves : (orders : List (Order T)) (place clients : ℕ) (old new : Scene V T) → GoesEach r s place clients old new → AreServed homes orders old → AreServed homes orders new
-  unfolding GoesEach
-  each_serves orders place zero old new it served = subst (λ scene. AreServed homes orders scene) (sym it) served
-  each_serves orders place (suc clients) old new it served = each_serves orders (place + 1) clients it.0 new it.2 (goes_serves orders place old it.0 it.1 served)
-
-  rounds_serve : (orders : List (Order T)) (rounds : ℕ) (old new : Scene V T) → Rounds r s rounds old new → AreServed homes orders old → AreServed homes orders new
-  unfolding Rounds
-  rounds_serve orders zero old new it served = subst (λ scene. AreServed homes orders scene) (sym it) served
-  rounds_serve orders (suc rounds) old new it served = rounds_serve orders rounds it.0 new it.2 (each_serves orders 0 _ old it.0 it.1 served)
-
   adds_serves : (orders : List (Order T)) (place : ℕ) (edit : T) (old new : Scene V T) → Adds place edit old new → AreServed homes orders old → AreServed homes (orders ++ record { place = place; task = Update edit } ∷ []) new
   adds_serves orders place edit old new it served =
       λ other c found.
@@ -99,7 +85,7 @@ module _ {V T M : Type 0} (r : Rules V T) (s : Store V M) (homes : List NodeId) 
     where
       does_serve : (done : List (Order T)) (place : ℕ) (task : Task T) (old new : Scene V T) → Does r s place task old new → AreServed homes done old → AreServed homes (done ++ record { place = place; task = task } ∷ []) new
       does_serve done place (Update edit) old new it served = adds_serves done place edit old new it served
-      does_serve done place (Go steps) old new it served = goes_more done place steps new (times_serves done place steps old new it served)
+      does_serve done place (Go steps) old new it served = goes_more done place steps new (times_keep r s (AreServed homes done) (goes_serves done) place steps old new it served)
 
   start_serves : AreServed {V = V} {T = T} homes [] (start_of s homes)
   start_serves =
@@ -108,4 +94,4 @@ module _ {V T M : Type 0} (r : Rules V T) (s : Store V M) (homes : List NodeId) 
       record { home = it.home ∙ ap (λ (x : Client V T). Some x.node) (sym it.is); edits = ap (λ (x : Client V T). x.edits) it.is }
 
   pub run_serves : (orders : List (Order T)) (end : Scene V T) → IsRun r s homes orders end → AreServed homes orders end
-  run_serves orders end run = rounds_serve orders run.rounds run.between end run.rest (all_serve [] orders (start_of s homes) run.between run.ordered start_serves)
+  run_serves orders end run = rounds_keep r s (AreServed homes orders) (goes_serves orders) run.rounds run.between end run.rest (all_serve [] orders (start_of s homes) run.between run.ordered start_serves)

@@ -42,7 +42,7 @@ use Rattle.replay_run.specs.ScriptRun.{Runs, Tells}
 use Rattle.replay_run.specs.SessionPlayed.{IsPlayedWell}
 use Rattle.replay_run.specs.StageScene.{StageKeeps, scene_in}
 use Rattle.replay_run.specs.StageSteps.{CanFollow, Finishes, Follows, IsOpened}
-use Rattle.replay_run.specs.StageView.{client_in, store_in}
+use Rattle.replay_run.specs.StageView.{client_seen, store_in}
 use Rattle.replay_run.proofs.GoodCalls.{entries_home, entry_of, homes_told}
 use Rattle.replay_run.proofs.GoodHistory.{none_stands}
 use Rattle.replay_run.proofs.GoodRun.{good_end}
@@ -65,7 +65,7 @@ plan_runs script plan kept is =
 pub lines_fit : (script : Script) (stage : Stage) (count : ℕ) (lines : List RunLine) → Keeps script → IsOpened script stage → length stage.clients.items ≡ count → All (KeepsRun script.names.clients) lines → All (CanFollow count) lines
 lines_fit script stage count lines kept opened counted all =
     let homes : length stage.clients.items ≡ length script.homes =
-    sym (length-map stage.clients.items (λ client. client_in stage.shelf client))
+    sym (length-map stage.clients.items client_seen)
     ∙ (ap (λ (x : Scene (List PrefPair) (List EditStep)). length x.clients) opened.start ∙ (length-map (enumerate_from 0 script.homes) (λ placed. new_client placed.0 placed.1) ∙ length-enumerate_from 0 script.homes)) in
     let many : length script.names.clients ≡ count = sym kept.homes.one_each ∙ (sym homes ∙ counted) in
     All-weaker (KeepsRun script.names.clients) (CanFollow count) (λ line it. record { declared = subst (λ n. line.client.0 < n) many it.declared; act = it.act }) lines all

@@ -41,7 +41,7 @@ use Rattle.replay_run.specs.ShelfOpens.{ShelfOpens, first_nodes, with_nodes}
 use Rattle.replay_run.specs.StageScene.{StageKeeps, scene_in}
 use Rattle.replay_run.specs.StageSteps.{IsOpened, IsStoreOf}
 use Rattle.replay_run.specs.StageView.{Change, Value, rules_in, store_in, world_in}
-use Rattle.replay_run.proofs.OpeningLemmas.{all_equipped, all_rest, among_first, homes_are, nodes_numbered}
+use Rattle.replay_run.proofs.OpeningLemmas.{all_equipped, among_first, homes_are, nodes_numbered}
 use Rattle.replay_run.proofs.StepKeeps.{start_keeps}
 
 abbrev SettingsShelf : Type 0
@@ -53,6 +53,15 @@ Seen = ShelfSeen PrefsCodec MemFolder Value Change
 no_raise : raises_of {V = Value} {T = Change} [] ≡ 0
 unfolding raises_of
 no_raise = refl
+
+-- what is the same in each part is the same
+worlds_are : {V T : Type 0} (x y : World V T) → x.told ≡ y.told → x.folder ≡ y.folder → x.sections ≡ y.sections → x.owner ≡ y.owner → x.history ≡ y.history → x.deaths ≡ y.deaths → x.version ≡ y.version → x.tally ≡ y.tally → x ≡ y
+worlds_are x y told folder sections owner history deaths version tally = rw (told, folder, sections, owner, history, deaths, version, tally) refl
+
+stores_are : {V M : Type 0} (x y : Store V M) → x.base ≡ y.base → x.nodes ≡ y.nodes → x.handler ≡ y.handler → x.migrations ≡ y.migrations → x.limits ≡ y.limits → x.deaths ≡ y.deaths → x.main ≡ y.main → x.sections ≡ y.sections
+    → x.folder ≡ y.folder → x.legacy ≡ y.legacy → x.alone ≡ y.alone → x ≡ y
+stores_are x y base nodes handler migrations limits deaths main sections folder legacy alone =
+    rw (base, nodes, handler, migrations, limits, deaths, main, sections, folder, legacy, alone) refl
 
 -- the shelf is that of a new folder, which has the script's file
 module _ (script : Script) (unreplaced : script.start.replace ≡ false) (shelf : SettingsShelf) (first : MemFolder) (base : BaseSeen Value)
@@ -84,11 +93,7 @@ module _ (script : Script) (unreplaced : script.start.replace ≡ false) (shelf 
       let kept : now.kept ≡ Images (s.main ∷ []) = starts.kept ∙ (kept_alone ∙ ap (λ (main : Option (List ℕ)). Images (main ∷ [])) (sym (opens.main refl))) in
       let first : now.first ≡ s.main = starts.first ∙ sym (opens.main refl) in
       let alone : now.alone ≡ true = starts.alone.1 kept_alone in
-      ap (λ (x : Option (List ℕ)). record now { main = x }) main
-      ∙ (ap (λ (x : Scratch). record now { main = s.main; scratch = x }) scratch
-      ∙ (ap (λ (x : Kept). record now { main = s.main; scratch = Gone; kept = x }) kept
-      ∙ (ap (λ (x : Option (List ℕ)). record { main = s.main; scratch = Gone; kept = Images (s.main ∷ []); first = x; alone = now.alone }) first
-      ∙ ap (λ (x : Bool). record (fresh_contents s.main) { alone = x }) alone)))
+      rw (main, scratch, kept, first, alone) refl
 
   -- the tally is that of the new folder, whose count is the store's
   tally_starts : tally_of shelf.folder ≡ tally_at_start s.folder.count
@@ -98,20 +103,12 @@ module _ (script : Script) (unreplaced : script.start.replace ≡ false) (shelf 
       let due : now.due ≡ (fresh_tally []).due = tallies.due refl ∙ ap (λ (t : Tally). t.due) tally in
       let most : now.most ≡ most_of s.folder.count (fresh_tally []).due =
       tallies.most refl ∙ (ap (λ (n : ℕ). most_of n (tally_of first).due) (sym opens.count) ∙ ap (λ (t : Tally). most_of s.folder.count t.due) tally) in
-      ap (λ (n : ℕ). record now { count = n }) count
-      ∙ (ap (λ (x : Option ℕ). record now { count = s.folder.count; most = x }) most ∙ ap (λ (x : Due). record (tally_at_start s.folder.count) { due = x }) due)
+      rw (count, most, due) refl
 
   world_starts : world_in shelf ≡ world_of s
   world_starts =
-      let now : World Value Change = world_in shelf in
-      let with_parts : Contents → Option CallId → List (EntrySeen Value Change) → ℕ → Tally → World Value Change =
-      λ folder owner list version counted. record { told = true; folder = folder; sections = []; owner = owner; history = list; deaths = []; version = version; tally = counted } in
-      let version : now.version ≡ 0 = ap (λ (list : List (EntrySeen Value Change)). raises_of list) opens.list ∙ no_raise in
-      ap (λ (x : Contents). with_parts x now.owner now.history now.version now.tally) folder_is
-      ∙ (ap (λ (x : Option CallId). with_parts (fresh_contents s.main) x now.history now.version now.tally) opens.owner
-      ∙ (ap (λ (x : List (EntrySeen Value Change)). with_parts (fresh_contents s.main) None x now.version now.tally) opens.list
-      ∙ (ap (λ (x : ℕ). with_parts (fresh_contents s.main) None [] x now.tally) version
-      ∙ ap (λ (x : Tally). with_parts (fresh_contents s.main) None [] 0 x) tally_starts)))
+      let version : (world_in shelf).version ≡ 0 = ap (λ (list : List (EntrySeen Value Change)). raises_of list) opens.list ∙ no_raise in
+      worlds_are (world_in shelf) (world_of s) refl folder_is refl opens.owner opens.list refl version tally_starts
 
   based : HasItsBase Reads [] s
   based =
@@ -119,38 +116,9 @@ module _ (script : Script) (unreplaced : script.start.replace ≡ false) (shelf 
       (subst (λ (main : Option (List ℕ)). ReadsAs Reads [] 1048576 main s.base) (sym (opens.main refl))
       (subst (λ (b : BaseSeen Value). ReadsAs Reads [] 1048576 (contents_of first).main b) (sym opens.base_now) reads))
 
-  -- the store of the script with these parts
-  abbrev made : BaseSeen Value → Option Value → ℕ → Bounds → List PlannedDeath → Option (List ℕ) → ℕ → Bool → Store Value (Unit {0})
-  made base handler file history deaths main count alone =
-      record {
-        base = base;
-        nodes = nodes_of script;
-        handler = handler;
-        migrations = [];
-        limits = record { file = file; history = history };
-        deaths = deaths;
-        main = main;
-        sections = [];
-        folder = record { count = count; most = s.folder.most };
-        legacy = record { count = 0; most = None };
-        alone = alone;
-      }
-
   stores : IsStoreOf prefs_basis script (record s { nodes = nodes_of script })
   stores plan told undying same =
-      let bounds : Bounds = record { entries = script.start.entries; weight = 268435456 } in
-      let file = main_of script.start.file in
-      let handling : Bool → Option Value = λ replace. if replace then Some [] else None in
-      let handler : Option Value = handling script.start.replace in
-      let none : handler ≡ None = ap handling unreplaced in
-      ap (λ (x : BaseSeen Value). made x None s.limits.file s.limits.history [] s.main s.folder.count s.alone) (sym same)
-      ∙ (ap (λ (x : Option Value). made told.base x s.limits.file s.limits.history [] s.main s.folder.count s.alone) (sym none)
-      ∙ (ap (λ (x : ℕ). made told.base handler x s.limits.history [] s.main s.folder.count s.alone) opens.file
-      ∙ (ap (λ (x : Bounds). made told.base handler 1048576 x [] s.main s.folder.count s.alone) opens.history
-      ∙ (ap (λ (x : List PlannedDeath). made told.base handler 1048576 bounds x s.main s.folder.count s.alone) (sym undying)
-      ∙ (ap (λ (x : Option (List ℕ)). made told.base handler 1048576 bounds plan.deaths x s.folder.count s.alone) main_is
-      ∙ (ap (λ (x : ℕ). made told.base handler 1048576 bounds plan.deaths file x s.alone) count_is
-      ∙ ap (λ (x : Bool). made told.base handler 1048576 bounds plan.deaths file 0 x) alone_is))))))
+      stores_are _ _ (sym same) refl (rw unreplaced refl) refl (rw (opens.file, opens.history) refl) (sym undying) main_is refl (rw count_is refl) refl alone_is
 
   pub shelf_opens : ShelfOpens prefs_basis script shelf
   shelf_opens =
@@ -172,9 +140,8 @@ module _ (script : Script) (stage : Stage) (first : SettingsShelf) (count : ℕ)
   starts_now : scene_in stage ≡ start_of (store_in stage.shelf) script.homes
   starts_now =
       let world : world_in stage.shelf ≡ world_of (store_in stage.shelf) = subst (λ (s : Seen). world_seen folder.ghosts s ≡ world_of s.store) (sym seen) opens.starts in
-      let clients : (scene_in stage).clients ≡ new_clients script.homes = all_rest stage.shelf stage.clients.items new.rest ∙ new.seen in
-      ap (λ (w : World Value Change). record { world = w; clients = (scene_in stage).clients }) world
-      ∙ ap (λ (cs : List (Client Value Change)). record { world = world_of (store_in stage.shelf); clients = cs }) clients
+      let clients : (scene_in stage).clients ≡ new_clients script.homes = new.seen in
+      rw (world, clients) refl
 
   at_home : All (λ (home : NodeId). is_among home (store_in stage.shelf).nodes ≡ true) script.homes
   at_home =

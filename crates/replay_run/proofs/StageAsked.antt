@@ -11,7 +11,7 @@ use Rattle.replay_run.specs.declared.stage.Stage.{Stage}
 use Rattle.replay_run.specs.Scene.{Client}
 use Rattle.replay_run.specs.StageGoing.{AskedAlike, works}
 use Rattle.replay_run.specs.StageScene.{AsksFew, StageKeeps, scene_in}
-use Rattle.replay_run.specs.StageView.{Change, Running, client_in, store_in}
+use Rattle.replay_run.specs.StageView.{Change, client_seen, store_in, update_seen}
 use Rattle.replay_run.specs.Step.{begin_next, has_work}
 
 all_by : {X Y : Type 0} (P : Y → Type 0) (f : X → Y) (xs ys : List X) → map f ys ≡ map f xs → All (λ x. P (f x)) xs → All (λ x. P (f x)) ys
@@ -58,22 +58,17 @@ some_map : {X Y : Type 0} (f : X → Y) (o : Option X) → is_some (option_map f
 some_map f None = refl
 some_map f (Some x) = refl
 
-module _ (stage : Stage) where
-  running_some : (client : own.Client) (running : Option Running) → client.running ≡ running → is_some (client_in stage.shelf client).running ≡ is_some running
-  running_some client None idle = rw idle refl
-  running_some client (Some call) runs = rw runs refl
+-- whether a client has something to do
+pub works_seen : (client : own.Client) → has_work (client_seen client) ≡ works client
+works_seen client =
+    let asked : is_some (slice_get (client_seen client).edits client.begun) ≡ is_some (slice_get client.edits.items client.begun) =
+    ap (λ o. is_some o) (slice_get-map (λ (edit : Bor Change). edit.now) client.edits.items client.begun) ∙ some_map (λ (edit : Bor Change). edit.now) (slice_get client.edits.items client.begun) in
+    work_is (client_seen client) ∙ rw (some_map update_seen client.running, asked) refl
 
-  -- whether a client has something to do
-  pub works_seen : (client : own.Client) → has_work (client_in stage.shelf client) ≡ works client
-  works_seen client =
-      let asked : is_some (slice_get (client_in stage.shelf client).edits client.begun) ≡ is_some (slice_get client.edits.items client.begun) =
-      ap (λ o. is_some o) (slice_get-map (λ (edit : Bor Change). edit.now) client.edits.items client.begun) ∙ some_map (λ (edit : Bor Change). edit.now) (slice_get client.edits.items client.begun) in
-      work_is (client_in stage.shelf client) ∙ (ap (λ b. b || is_some (slice_get (client_in stage.shelf client).edits client.begun)) (running_some client client.running refl) ∙ ap (λ b. is_some client.running || b) asked)
+any_seen : (clients : List own.Client) → list_any has_work (map client_seen clients) ≡ list_any works clients
+any_seen [] = refl
+any_seen (x ∷ xs) = rw (works_seen x, any_seen xs) refl
 
-  any_seen : (clients : List own.Client) → list_any has_work (map (λ x. client_in stage.shelf x) clients) ≡ list_any works clients
-  any_seen [] = refl
-  any_seen (x ∷ xs) = ap (λ b. b || list_any has_work (map (λ x. client_in stage.shelf x) xs)) (works_seen x) ∙ ap (λ b. works x || b) (any_seen xs)
-
-  -- whether anybody has
-  pub work_seen : list_any has_work (scene_in stage).clients ≡ list_any works stage.clients.items
-  work_seen = any_seen stage.clients.items
+-- whether anybody has
+pub work_seen : (stage : Stage) → list_any has_work (scene_in stage).clients ≡ list_any works stage.clients.items
+work_seen stage = any_seen stage.clients.items

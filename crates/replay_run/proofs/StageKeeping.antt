@@ -20,7 +20,7 @@ use Rattle.replay_run.specs.ClientSteps.{GoesAlone, IsOther, MayGo}
 use Rattle.replay_run.specs.SceneKeeps.{SceneKeeps, ShelfKeeps}
 use Rattle.replay_run.specs.StageGoing.{AskedAlike}
 use Rattle.replay_run.specs.StageScene.{StageKeeps, scene_in}
-use Rattle.replay_run.specs.StageView.{EquippedIn, Value, client_in, rules_in, store_in, world_in}
+use Rattle.replay_run.specs.StageView.{EquippedIn, Value, client_seen, rules_in, store_in, world_in}
 use Rattle.replay_run.specs.Step.{Goes}
 use Rattle.replay_run.proofs.SetLemmas.{set_same}
 use Rattle.replay_run.proofs.SetViews.{all_found, map_set}
@@ -39,7 +39,7 @@ shelf_keeps stage =
     }
 
 module _ (stage : Stage) (place : ℕ) (client : own.Client) (found : slice_get stage.clients.items place ≡ Some client) where
-  pub may_go_now : StageKeeps stage → MayGo (rules_in stage.shelf) (store_in stage.shelf) (client_in stage.shelf client) (world_in stage.shelf)
+  pub may_go_now : StageKeeps stage → MayGo (rules_in stage.shelf) (store_in stage.shelf) (client_seen client) (world_in stage.shelf)
   may_go_now keeps =
       may_go_here stage.shelf stage.shelf stage.clients.items place client client found keeps.scene
       (all_found (λ (x : own.Client). is_among x.node (store_in stage.shelf).nodes ≡ true) stage.clients.items place client found keeps.nodes)
@@ -52,11 +52,11 @@ module _ (old new : Stage) (place : ℕ) (client after : own.Client) (found : sl
       let there : slice_get (map g old.clients.items) place ≡ Some client.edits = slice_get-map g old.clients.items place ∙ ap (λ o. option_map g o) found in
       ap (λ list. map g list) now ∙ (map_set g g old.clients.items place after (λ j y apart is. refl) ∙ (ap (λ e. slice_set (map g old.clients.items) place e) same ∙ set_same (map g old.clients.items) place client.edits there))
 
-  module _ (keeps : StageKeeps old) (goes : GoesAlone (rules_in old.shelf) (store_in old.shelf) (client_in old.shelf client) (world_in old.shelf) (client_in new.shelf after) (world_in new.shelf))
-      (spares : (other : CallId) → (shelf_seen old.shelf).owner ≡ Some other → IsOther (client_in old.shelf client) other → shelf_seen new.shelf ≡ shelf_seen old.shelf) where
+  module _ (keeps : StageKeeps old) (goes : GoesAlone (rules_in old.shelf) (store_in old.shelf) (client_seen client) (world_in old.shelf) (client_seen after) (world_in new.shelf))
+      (spares : (other : CallId) → (shelf_seen old.shelf).owner ≡ Some other → IsOther (client_seen client) other → shelf_seen new.shelf ≡ shelf_seen old.shelf) where
     pub stage_goes : Goes (rules_in old.shelf) (store_in old.shelf) place (scene_in old) (scene_in new)
     stage_goes =
-        subst (λ list. Goes (rules_in old.shelf) (store_in old.shelf) place (scene_in old) (record { world = world_in new.shelf; clients = map (λ x. client_in new.shelf x) list })) (sym now)
+        subst (λ list. Goes (rules_in old.shelf) (store_in old.shelf) place (scene_in old) (record { world = world_in new.shelf; clients = map client_seen list })) (sym now)
         (scene_goes old.shelf new.shelf old.clients.items place client after found keeps.scene goes spares)
 
     pub stage_keeps : (store_in new.shelf) ≡ store_in old.shelf → EquippedIn new.shelf after → new.word ≡ raises_of (shelf_seen new.shelf).list → StageKeeps new

@@ -20,7 +20,7 @@ use Rattle.replay_run.specs.ScriptRun.{order_of, task_of}
 use Rattle.replay_run.specs.StageGoing.{FollowsLine}
 use Rattle.replay_run.specs.StageScene.{StageKeeps, scene_in}
 use Rattle.replay_run.specs.StageSteps.{Follows}
-use Rattle.replay_run.specs.StageView.{Change, EquippedIn, client_in, rules_in, store_in}
+use Rattle.replay_run.specs.StageView.{Change, EquippedIn, client_seen, rules_in, store_in}
 use Rattle.replay_run.proofs.RunLemmas.{does_push}
 use Rattle.replay_run.proofs.SetViews.{all_found, all_set, map_set}
 use Rattle.replay_run.proofs.StepKeeps.{adding_keeps}
@@ -31,19 +31,19 @@ module _ (stage : Stage) (place : ℕ) (client after : own.Client) (edit : Chang
   abbrev asked : Stage
   asked = record stage { clients = with_item stage.clients place after }
 
-  after_seen : client_in stage.shelf after ≡ with_edit edit (client_in stage.shelf client)
-  after_seen = ap (λ (x : own.Client). client_in stage.shelf x) same ∙ ap (λ list. record (client_in stage.shelf client) { edits = list }) edits
+  after_seen : client_seen after ≡ with_edit edit (client_seen client)
+  after_seen = ap client_seen same ∙ ap (λ list. record (client_seen client) { edits = list }) edits
 
-  there : slice_get (scene_in stage).clients place ≡ Some (client_in stage.shelf client)
-  there = slice_get-map (λ x. client_in stage.shelf x) stage.clients.items place ∙ ap (λ o. option_map (λ x. client_in stage.shelf x) o) found
+  there : slice_get (scene_in stage).clients place ≡ Some (client_seen client)
+  there = slice_get-map client_seen stage.clients.items place ∙ ap (option_map client_seen) found
 
-  clients_now : (scene_in asked).clients ≡ slice_set (scene_in stage).clients place (with_edit edit (client_in stage.shelf client))
+  clients_now : (scene_in asked).clients ≡ slice_set (scene_in stage).clients place (with_edit edit (client_seen client))
   clients_now =
-      map_set (λ x. client_in stage.shelf x) (λ x. client_in stage.shelf x) stage.clients.items place after (λ j y apart is. refl) ∙ ap (λ x. slice_set (scene_in stage).clients place x) after_seen
+      map_set client_seen client_seen stage.clients.items place after (λ j y apart is. refl) ∙ ap (λ x. slice_set (scene_in stage).clients place x) after_seen
 
   -- its scene has one more edit
   pub adds_now : Adds place edit (scene_in stage) (scene_in asked)
-  adds_now = record { client = client_in stage.shelf client; was = there; now = ap (λ list. record (scene_in stage) { clients = list }) clients_now }
+  adds_now = record { client = client_seen client; was = there; now = ap (λ list. record (scene_in stage) { clients = list }) clients_now }
 
   pub asked_keeps : StageKeeps stage → StageKeeps asked
   asked_keeps keeps =

@@ -9,14 +9,16 @@ use Rattle.store_traits.specs.declared.update_error.UpdateError.{UpdateError}
 use Rattle.step_table.specs.declared.progress.Progress.{Progress}
 use Rattle.step_table.specs.declared.progress.Progress.TheVariants.{Moved, Blocked, Ended}
 use Rattle.shelf.specs.declared.store.Store.{Store}
-use Rattle.step_table.specs.Calls.{At, Call, First, Gone, is_first, is_gone}
+use Rattle.step_table.specs.Calls.{At, Call, First, is_first, replied}
 use Rattle.step_table.specs.Turn.{Turn}
 use Rattle.shelf.specs.Rules.{Rules}
 use Rattle.step_table.specs.World.{Turned, World}
 use Rattle.shelf.proofs.Bools.{never}
-use Rattle.step_table.proofs.StepLemmas.{turn_waits}
+use Rattle.step_table.proofs.Waiting.{turn_waits}
 use Rattle.node_core.specs.Phases.{is_finishing, is_holding}
 use Rattle.node_core.specs.StepsLeft.{steps_left}
+use Rattle.node_core.proofs.KeepingLemmas.{turn_stays}
+use Rattle.node_core.proofs.MovingLemmas.{has_left}
 use Rattle.node_core.proofs.StepsLemmas.{turn_steps}
 use Rattle.replay_run.specs.ClientKeeps.{KeepsCall, KeepsRunning}
 use Rattle.replay_run.specs.Run.{IsOver}
@@ -25,7 +27,6 @@ use Rattle.replay_run.specs.SceneKeeps.{HasOwner, SceneKeeps}
 use Rattle.replay_run.specs.Step.{Goes, Steps, at_work, begin_next, behind_turn, has_work}
 use Rattle.replay_run.specs.WorkLeft.{IsStill, RoundSoFar, Waits, client_left, work_left}
 use Rattle.replay_run.proofs.BeginKeeps.{begins_keeps}
-use Rattle.replay_run.proofs.OwnTurns.{waits_same}
 use Rattle.replay_run.proofs.ReplacedClient.{one_of_it}
 use Rattle.replay_run.proofs.TurnKeeps.{first_not_finishing}
 use Rattle.replay_run.proofs.SetLemmas.{others_found, set_found, sum_then}
@@ -40,10 +41,6 @@ or_none true y none = refl
 or_none false y none = none
 
 module _ {V T : Type 0} where
-  holding_is_late : (at : At V T) → is_holding at ≡ true → is_first at ≡ true → ⊥
-  holding_is_late (First edit) holds first = never holds
-  holding_is_late other holds first = never first
-
   first_holds_none : (at : At V T) → is_first at ≡ true → is_holding at ≡ false
   first_holds_none (First edit) first = refl
   first_holds_none other first = never first
@@ -62,12 +59,6 @@ module _ {V T : Type 0} (limit : ℕ) where
   begins_same client None (Some edit) idle asked = rw idle (one_fewer limit (length client.edits) client.begun (slice_get_within client.edits client.begun edit asked))
   begins_same client None None idle asked = refl
   begins_same client (Some call) edit runs asked = refl
-
-  some_left : (initialised : Bool) (at : At V T) → is_gone at ≡ false → 0 < steps_left limit initialised at
-  some_left initialised Gone goes_on = never (sym goes_on)
-  some_left true (First edit) goes_on = omega arith
-  some_left false (First edit) goes_on = omega arith
-  some_left initialised other goes_on = omega arith
 
 module _ {V T M : Type 0} (r : Rules V T) (s : Store V M) where
   abbrev left : Client V T → ℕ
@@ -89,12 +80,11 @@ module _ {V T M : Type 0} (r : Rules V T) (s : Store V M) where
           rw runs (omega (arith, less))
 
       ended_left : (answer : Result ℕ UpdateError) → left (behind_turn client call (Ended answer) call_after) < left client
-      ended_left answer = rw runs (omega (arith, some_left s.limits.file client.initialised call.at kept.goes_on))
+      ended_left answer = rw runs (omega (arith, has_left s.limits.file client.initialised call.at kept.goes_on))
 
       waits_left : Turn r s turned Blocked → left (behind_turn client call Blocked call_after) ≡ left client
       waits_left it =
-          let waits = waits_same r s turned keeps.alive keeps.unplanned it in
-          let at : call_after.at ≡ call.at = ap (λ (c : Call V T). c.at) waits.call in
+          let at : call_after.at ≡ call.at = ap (λ (c : Call V T). c.at) (turn_stays r s turned it).1 in
           let same : (client.initialised || is_finishing call.at) ≡ client.initialised = or_none client.initialised (is_finishing call.at) (first_not_finishing call.at (turn_waits r s turned it).2) in
           rw (runs, at, same) refl
 
@@ -124,8 +114,8 @@ module _ {V T M : Type 0} (r : Rules V T) (s : Store V M) where
     abbrev taken : Turned V T
     taken = record { world = old.world; call = it.acts.call; world_after = new.world; call_after = it.acts.call_after }
 
-    turn_of : (g : Progress (Result ℕ UpdateError)) → it.acts.gave ≡ g → Turn r s taken g
-    turn_of g is = subst (λ gave. Turn r s taken gave) is it.acts.turn
+    turn_of : (g : Progress (Result ℕ UpdateError)) → it.acts.gave ≡ g → Turn r s taken (replied g)
+    turn_of g is = subst (λ gave. Turn r s taken (replied gave)) is it.acts.turn
 
     left_after : (g : Progress (Result ℕ UpdateError)) → it.acts.gave ≡ g → left it.client_after ≡ left (behind_turn acts_now it.acts.call g it.acts.call_after)
     left_after g is = ap (λ c. left c) (it.acts.now ∙ ap (λ gave. behind_turn acts_now it.acts.call gave it.acts.call_after) is)

@@ -5,7 +5,7 @@ use Rattle.store_traits.specs.declared.ids.CallId.{CallId}
 use Rattle.store_traits.specs.declared.update_error.UpdateError.{UpdateError}
 use Rattle.shelf.specs.declared.store.Store.{Store}
 use Rattle.shelf.specs.AddsNode.{is_among}
-use Rattle.step_table.specs.Calls.{First}
+use Rattle.step_table.specs.Calls.{Update, First}
 use Rattle.shelf.specs.Rules.{Rules}
 use Rattle.step_table.specs.World.{World}
 use Rattle.node_core.specs.Views.{state_seen}
@@ -18,7 +18,7 @@ use Rattle.replay_run.specs.Step.{Acts, at_work, has_work}
 -- the next call begins, for this edit
 pub record BeginsCall (old : own.Client) (edit : Change) (new : own.Client) : Type 0 where
   pub call : Running
-  pub state : state_seen call.state ≡ First edit
+  pub state : state_seen call.state ≡ First (Update edit)
   pub origin : call.origin ≡ record { call = record { node = old.node; client = old.id; number = old.begun + 1 }; since = None }
   pub initialised : call.initialised ≡ false
   pub now : new ≡ record old { begun = old.begun + 1; running = Some call }
@@ -42,8 +42,6 @@ module _ {V T M : Type 0} (r : Rules V T) (s : Store V M) where
   pub record MayGo (client : Client V T) (world : World V T) : Type 0 where
     pub node : is_among client.node s.nodes ≡ true
     pub keeps : KeepsRunning r s (at_work client) world (at_work client).running
-    pub running : KeepsRunning r s client world client.running
-    pub next : world.owner ≡ Some (call_of client (client.begun + 1)) → ⊥
 
   -- the call that runs takes a turn, if one does
   abbrev pub TakesTurn : Client V T → World V T → Client V T → World V T → Type 0

@@ -6,10 +6,10 @@ use Rattle.shelf.specs.ShelfSeen.{shelf_seen}
 use Rattle.replay_run.specs.declared.stage.Stage.{Stage}
 use Rattle.replay_run.specs.Scene.{Scene}
 use Rattle.replay_run.specs.SceneKeeps.{SceneKeeps}
-use Rattle.replay_run.specs.StageView.{Change, EquippedIn, Value, client_in, rules_in, store_in, world_in}
+use Rattle.replay_run.specs.StageView.{Change, EquippedIn, Value, client_seen, rules_in, store_in, world_in}
 
 abbrev pub scene_in : Stage → Scene Value Change
-scene_in stage = record { world = world_in stage.shelf; clients = map (λ client. client_in stage.shelf client) stage.clients.items }
+scene_in stage = record { world = world_in stage.shelf; clients = map client_seen stage.clients.items }
 
 pub record StageKeeps (stage : Stage) : Type 0 where
   pub scene : SceneKeeps (rules_in stage.shelf) (store_in stage.shelf) (scene_in stage)

@@ -1,5 +1,5 @@
 -- What contracts see of a session in progress: its scene.
-use Rattle.std.specs.Prelude.{Bool, false, List, map, Option, Some, None}
+use Rattle.std.specs.Prelude.{Bool, false, List, map, Option, Some, None, option_map}
 use Rattle.store_traits.specs.declared.codec.Codec as codec_trait
 use Rattle.store_traits.specs.declared.transform.Transform as transform_trait
 use Rattle.folder_disk.specs.declared.folder.Folder as folder_trait
@@ -36,19 +36,30 @@ abbrev pub answered_seen : own_answered.Answered → Answered
 answered_seen a = record { call = a.call; answer = a.answer }
 
 module _ {P C T F V : Type 0} where
-  abbrev pub running_seen : folder_trait.Ghosts F → ShelfSeen C F V T → Option (UpdateCall P C T F V) → Option (Call V T)
-  running_seen f s None = None
-  running_seen f s (Some call) = Some (call_seen f call.origin (state_seen call.state) s)
+  abbrev pub update_seen : UpdateCall P C T F V → Call V T
+  update_seen call = call_seen call.origin (state_seen call.state)
 
   -- the call that runs has initialised its node
   abbrev pub is_initialised : Option (UpdateCall P C T F V) → Bool
   is_initialised None = false
   is_initialised (Some call) = call.initialised
 
-  -- the folder has memory for what the call that runs is still to write
+  -- there is room for what the call that runs is still to write
   abbrev pub IsEquipped : codec_trait.Ghosts C V → transform_trait.Ghosts T V → folder_trait.Ghosts F → ShelfSeen C F V T → Option (UpdateCall P C T F V) → Type 0
   IsEquipped c t f s None = Unit {0}
   IsEquipped c t f s (Some call) = Equipped c t f (state_seen call.state) s
+
+abbrev pub client_seen : own_client.Client → Client Value Change
+client_seen client =
+    record {
+      id = client.id;
+      node = client.node;
+      edits = map (λ edit. edit.now) client.edits.items;
+      begun = client.begun;
+      running = option_map update_seen client.running;
+      initialised = is_initialised client.running;
+      answered = map answered_seen client.answered.items;
+    }
 
 module _ {c : codec_trait.Ghosts PrefsCodec Value} {t : transform_trait.Ghosts Change Value} {f : folder_trait.Ghosts MemFolder} where
   abbrev pub rules_in : Shelf (PrefsParts MemFolder) PrefsCodec Change MemFolder Value c t f → Rules Value Change
@@ -59,21 +70,6 @@ module _ {c : codec_trait.Ghosts PrefsCodec Value} {t : transform_trait.Ghosts C
 
   abbrev pub world_in : Shelf (PrefsParts MemFolder) PrefsCodec Change MemFolder Value c t f → World Value Change
   world_in shelf = world_seen f (shelf_seen shelf)
-
-  abbrev pub call_in : Shelf (PrefsParts MemFolder) PrefsCodec Change MemFolder Value c t f → Running → Call Value Change
-  call_in shelf call = call_seen f call.origin (state_seen call.state) (shelf_seen shelf)
-
-  abbrev pub client_in : Shelf (PrefsParts MemFolder) PrefsCodec Change MemFolder Value c t f → own_client.Client → Client Value Change
-  client_in shelf client =
-      record {
-        id = client.id;
-        node = client.node;
-        edits = map (λ edit. edit.now) client.edits.items;
-        begun = client.begun;
-        running = running_seen f (shelf_seen shelf) client.running;
-        initialised = is_initialised client.running;
-        answered = map answered_seen client.answered.items;
-      }
 
   abbrev pub EquippedIn : Shelf (PrefsParts MemFolder) PrefsCodec Change MemFolder Value c t f → own_client.Client → Type 0
   EquippedIn shelf client = IsEquipped c t f (shelf_seen shelf) client.running

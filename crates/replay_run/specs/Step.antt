@@ -4,7 +4,7 @@ use Rattle.store_traits.specs.declared.update_error.UpdateError.{UpdateError}
 use Rattle.store_traits.specs.declared.update_error.UpdateError.TheVariants.{NoMemory}
 use Rattle.shelf.specs.declared.store.Store.{Store}
 use Rattle.shelf.specs.Rules.{Rules}
-use Rattle.step_table.specs.Calls.{Call, First}
+use Rattle.step_table.specs.Calls.{Update, Call, First, replied}
 use Rattle.step_table.specs.declared.progress.Progress.{Progress}
 use Rattle.step_table.specs.declared.progress.Progress.TheVariants.{Ended}
 use Rattle.step_table.specs.Turn.{Turn}
@@ -15,7 +15,7 @@ use Rattle.replay_run.specs.Scene.{Client, Scene, call_of}
 module _ {V T : Type 0} where
   -- a call before its first turn
   abbrev pub new_call : Client V T → T → Call V T
-  new_call client edit = record { id = call_of client (client.begun + 1); at = First edit; since = None; room = 0 }
+  new_call client edit = record { id = call_of client (client.begun + 1); at = First (Update edit); since = None }
 
   -- the next call begins where nothing runs and an edit is left
   abbrev pub begin_next : Client V T → Option (Call V T) → Option T → Client V T
@@ -41,7 +41,7 @@ module _ {V T M : Type 0} (r : Rules V T) (s : Store V M) where
     pub call_after : Call V T
     pub gave : Progress (Result ℕ UpdateError)
     pub works : (at_work client).running ≡ Some call
-    pub turn : Turn r s (record { world = world; call = call; world_after = world_after; call_after = call_after }) gave
+    pub turn : Turn r s (record { world = world; call = call; world_after = world_after; call_after = call_after }) (replied gave)
     pub memory : gave ≡ Ended (Err NoMemory) → ⊥
     pub unfailed : world_after.tally.count ≡ world.tally.count
     pub now : client_after ≡ behind_turn (at_work client) call gave call_after

@@ -5,7 +5,7 @@ ghost use Rattle.shelf.specs.AddsNode.{is_among};
 ghost use Rattle.shelf.specs.ShelfSeen.{shelf_seen};
 ghost use Rattle.replay_run.specs.ClientKeeps.{KeepsRunning};
 ghost use Rattle.replay_run.specs.ClientSteps.{BeginsBy, GoesAlone, HasAnswer, IsOther, MayGo, TakesTurn};
-ghost use Rattle.replay_run.specs.StageView.{EquippedIn, client_in, rules_in, store_in, world_in};
+ghost use Rattle.replay_run.specs.StageView.{EquippedIn, client_seen, rules_in, store_in, world_in};
 
 use crate::PrefsParts;
 use crate::answered::Answered;
@@ -77,14 +77,14 @@ impl<'s> Client<'s> {
         requires number { word.old ≡ raises_of (shelf_seen shelf.old).list }
         requires spare { (shelf_seen shelf.old).store.folder.most ≡ Some 0 }
         requires unfailed { (world_in shelf.old).tally.count ≡ 0 }
-        requires may { MayGo (rules_in shelf.old) (store_in shelf.old) (client_in shelf.old self.old) (world_in shelf.old) }
+        requires may { MayGo (rules_in shelf.old) (store_in shelf.old) (client_seen self.old) (world_in shelf.old) }
         requires equipped { EquippedIn shelf.old self.old }
         requires few { vec_len self.old.edits ≤ 100000 }
-        ensures goes { OnOk result (GoesAlone (rules_in shelf.old) (store_in shelf.old) (client_in shelf.old self.old) (world_in shelf.old) (client_in shelf.new self.new) (world_in shelf.new)) }
+        ensures goes { OnOk result (GoesAlone (rules_in shelf.old) (store_in shelf.old) (client_seen self.old) (world_in shelf.old) (client_seen self.new) (world_in shelf.new)) }
         ensures store { (shelf_seen shelf.new).store ≡ (shelf_seen shelf.old).store }
         ensures codec { shelf.new.codec ≡ shelf.old.codec }
         ensures equipped { OnOk result (EquippedIn shelf.new self.new) }
-        ensures spares { (other : CallId) → (shelf_seen shelf.old).owner ≡ Some other → IsOther (client_in shelf.old self.old) other → shelf_seen shelf.new ≡ shelf_seen shelf.old }
+        ensures spares { (other : CallId) → (shelf_seen shelf.old).owner ≡ Some other → IsOther (client_seen self.old) other → shelf_seen shelf.new ≡ shelf_seen shelf.old }
         ensures edits { self.new.edits ≡ self.old.edits }
         ensures number { word.new ≡ raises_of (shelf_seen shelf.new).list }
     {
@@ -103,13 +103,13 @@ impl<'s> Client<'s> {
         requires spare { (shelf_seen shelf.old).store.folder.most ≡ Some 0 }
         requires unfailed { (world_in shelf.old).tally.count ≡ 0 }
         requires node { is_among self.old.node (shelf_seen shelf.old).store.nodes ≡ true }
-        requires keeps { KeepsRunning (rules_in shelf.old) (store_in shelf.old) (client_in shelf.old self.old) (world_in shelf.old) (client_in shelf.old self.old).running }
+        requires keeps { KeepsRunning (rules_in shelf.old) (store_in shelf.old) (client_seen self.old) (world_in shelf.old) (client_seen self.old).running }
         requires equipped { EquippedIn shelf.old self.old }
-        ensures turns { OnOk result (TakesTurn (rules_in shelf.old) (store_in shelf.old) (client_in shelf.old self.old) (world_in shelf.old) (client_in shelf.new self.new) (world_in shelf.new)) }
+        ensures turns { OnOk result (TakesTurn (rules_in shelf.old) (store_in shelf.old) (client_seen self.old) (world_in shelf.old) (client_seen self.new) (world_in shelf.new)) }
         ensures store { (shelf_seen shelf.new).store ≡ (shelf_seen shelf.old).store }
         ensures codec { shelf.new.codec ≡ shelf.old.codec }
         ensures equipped { OnOk result (EquippedIn shelf.new self.new) }
-        ensures spares { (other : CallId) → (shelf_seen shelf.old).owner ≡ Some other → IsOther (client_in shelf.old self.old) other → shelf_seen shelf.new ≡ shelf_seen shelf.old }
+        ensures spares { (other : CallId) → (shelf_seen shelf.old).owner ≡ Some other → IsOther (client_seen self.old) other → shelf_seen shelf.new ≡ shelf_seen shelf.old }
         ensures edits { self.new.edits ≡ self.old.edits }
         ensures number { word.new ≡ raises_of (shelf_seen shelf.new).list }
     {

@@ -13,9 +13,11 @@ use Rattle.shelf.specs.Places.{is_fault_of}
 use Rattle.shelf.specs.WritingSteps.{is_writing}
 use Rattle.shelf.proofs.ListTests.{each, found}
 use Rattle.shelf.proofs.Tests.{at_most, both, if_so, is_none, like, no, one_call, same_bool, same_number, sure, yes}
-use Rattle.script_lang.specs.Chronicle.{Chapter, count_after}
+use Rattle.shelf.specs.FaultCounts.{count_after}
+use Rattle.script_lang.specs.Chronicle.{Chapter}
 use Rattle.script_lang.specs.Good.{EndCounts, Fails, FailsAsCounted, Handed, KeepsPlans, Scripted, Setting}
-use Rattle.script_lang.specs.GoodFailures.{DiesAsPlanned, FailsAsPlanned, IsPlanned, Spares, ends_in_raise, faults_of, is_edit, is_passed, is_passed_writing, plans}
+use Rattle.shelf.specs.LastRaise.{ends_in_raise}
+use Rattle.script_lang.specs.GoodFailures.{DiesAsPlanned, FailsAsPlanned, IsPlanned, Spares, faults_of, is_edit, is_passed, is_passed_writing, plans}
 
 module _ (c : Chapter) where
   module _ (before : List PrefEntry) (call : CallId) where

@@ -5,13 +5,11 @@ use Rattle.store_traits.specs.declared.ids.NodeId.{NodeId}
 use Rattle.folder_disk.specs.MainRead.{main_of}
 use Rattle.prefs_model.specs.declared.pref_pair.PrefPair.{PrefPair}
 use Rattle.prefs_edit.specs.declared.edit_step.EditStep.{EditStep}
-use Rattle.prefs_text.specs.EntryText.{PrefEntry, PrefKind}
-use Rattle.hist_journal.specs.declared.device.Device.{Device}
+use Rattle.prefs_text.specs.EntryText.{PrefEntry}
 use Rattle.hist_journal.specs.declared.device.Device.TheVariants.{Folder, Legacy}
-use Rattle.hist_journal.specs.declared.seen.KindSeen.TheVariants.{Fault}
 use Rattle.shelf.specs.declared.store.Store.{Store}
 use Rattle.shelf.specs.Base.{HasItsBase}
-use Rattle.shelf.specs.FaultCounts.{is_device}
+use Rattle.shelf.specs.FaultCounts.{count_after}
 use Rattle.shelf.specs.Images.{images}
 use Rattle.shelf.specs.Legal.{Legal}
 use Rattle.shelf.specs.Rules.{Rules}
@@ -47,16 +45,6 @@ first_beginning script = record { main = main_of script.start.file; folder = 0; 
 
 abbrev pub nodes_of : Script → List NodeId
 nodes_of script = map (λ placed. record { 0 = placed.0 }) (enumerate_from 0 script.names.nodes)
-
--- the count that an entry tells of the device, or the count before
-abbrev pub told_count : Device → ℕ → PrefKind → ℕ
-told_count device count (Fault failed reached) = if is_device device failed then reached else count
-told_count device count other = count
-
--- the count of the device's last Fault, or the count before
-unfoldable pub count_after : Device → ℕ → List PrefEntry → ℕ
-count_after device count [] = count
-count_after device count (e ∷ es) = count_after device (told_count device count e.kind) es
 
 -- the image with this number, counted from 0, or the last where there are fewer
 abbrev pub image : ℕ → List (Option (List ℕ)) → Option (List ℕ)

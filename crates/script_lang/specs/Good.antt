@@ -8,7 +8,8 @@ use Rattle.script_lang.specs.declared.file_seen.FileSeen.{FileSeen}
 use Rattle.script_lang.specs.declared.file_seen.FileSeen.TheVariants.{Absent, Bytes, TooLong}
 use Rattle.script_lang.specs.declared.script.Script.{Script}
 use Rattle.script_lang.specs.declared.transcript.Transcript.{Transcript}
-use Rattle.script_lang.specs.Chronicle.{Basis, Beginning, Chapter, IsChronicle, chronicle, count_after, first_beginning}
+use Rattle.shelf.specs.FaultCounts.{count_after}
+use Rattle.script_lang.specs.Chronicle.{Basis, Beginning, Chapter, IsChronicle, chronicle, first_beginning}
 use Rattle.shelf.specs.Each.{Each}
 use Rattle.script_lang.specs.GoodAnswers.{HasHomes, IsAnswered}
 use Rattle.script_lang.specs.GoodCauses.{HasCauses}

@@ -6,21 +6,17 @@ use Rattle.store_traits.specs.declared.step.Step.{Step}
 use Rattle.store_traits.specs.declared.step.Step.TheVariants.{U1, U2, U3, U4, U6, U7, U8}
 use Rattle.hist_journal.specs.declared.device.Device.TheVariants.{Folder, Legacy}
 use Rattle.hist_journal.specs.declared.seen.KindSeen.TheVariants.{Edit}
-use Rattle.hist_journal.specs.Kinds.{is_call, is_raise}
+use Rattle.hist_journal.specs.Kinds.{is_call}
 use Rattle.prefs_text.specs.EntryText.{PrefEntry, PrefKind}
 use Rattle.prefs_text.specs.declared.seen.AnswerSeen.{AnswerSeen}
 use Rattle.prefs_text.specs.declared.seen.AnswerSeen.TheVariants.{Updated}
 use Rattle.shelf.specs.declared.store.PlannedDeath.{PlannedDeath}
 use Rattle.shelf.specs.Entries.{is_death, is_own}
+use Rattle.shelf.specs.LastRaise.{ends_in_raise}
 use Rattle.shelf.specs.Places.{is_fault_of}
 use Rattle.shelf.specs.WritingSteps.{is_writing}
 use Rattle.script_lang.specs.Chronicle.{Chapter}
 use Rattle.shelf.specs.Each.{Each}
-
--- whether the last entry of this call, or what is said of none, is a Raise
-unfoldable pub ends_in_raise : CallId → Bool → List PrefEntry → Bool
-ends_in_raise call so_far [] = so_far
-ends_in_raise call so_far (e ∷ es) = ends_in_raise call (if is_call call e.who then is_raise e.kind else so_far) es
 
 -- the script plans this death of the call, at a step of writing exactly where the call had raised the version last
 pub record IsPlanned (c : Chapter) (before : List PrefEntry) (call : CallId) : Type 0 where

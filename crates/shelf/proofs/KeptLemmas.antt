@@ -20,7 +20,7 @@ use Rattle.hist_journal.proofs.FoldLemmas.{weight_of-push, main_of-other, main_o
 use Rattle.shelf.specs.declared.ledger.Ledger.{Ledger}
 use Rattle.shelf.specs.declared.store.Store.{Store}
 use Rattle.shelf.specs.Entries.{with_entries}
-use Rattle.shelf.specs.FaultCounts.{RaisesCount, has_reached}
+use Rattle.shelf.specs.FaultCounts.{RaisesCount, has_reached, count_after, told_count}
 use Rattle.shelf.specs.Kept.{Kept, KeptMain}
 use Rattle.shelf.specs.Ledger.{Enters, LedgerSeen, ledger_seen}
 use Rattle.shelf.specs.Legal.{Fits}
@@ -32,11 +32,12 @@ use Rattle.shelf.proofs.Bools.{never}
 use Rattle.shelf.proofs.LegalLemmas.{Legal-push}
 
 -- what a turn leaves of the start of the session, as the folder tells it
-pub record SameStart (told : Bool) (old new : Contents) (old_tally new_tally : Tally) : Type 0 where
+pub record SameStart (told failed : Bool) (old new : Contents) (old_tally new_tally : Tally) : Type 0 where
   pub first : IsTrue told → new.first ≡ old.first
   pub alone : IsTrue told → new.alone ≡ old.alone
   pub most : new_tally.most ≡ old_tally.most
   pub later : old_tally.count ≤ new_tally.count
+  pub counted : IsTrue told → failed ≡ false → new_tally.count ≡ old_tally.count
 
 -- what is seen only where it is told
 same_if : {X : Type 0} (told : Bool) (new old hidden : X) → (IsTrue told → new ≡ old) → (if told then new else hidden) ≡ (if told then old else hidden)
@@ -58,6 +59,20 @@ uncounted : {V T : Type 0} (kind : KindSeen V T) (count : ℕ) → is_plain kind
 uncounted (Fault device reached) count plain = never plain
 uncounted other count plain = refl
 
+-- nor does it tell another count, and a value change is none
+plain_count : {V T : Type 0} (kind : KindSeen V T) (count : ℕ) → is_plain kind ≡ true → told_count Folder count kind ≡ count
+plain_count (Fault device reached) count plain = never plain
+plain_count other count plain = refl
+
+change_count : {V T : Type 0} (kind : KindSeen V T) (count : ℕ) → is_change kind ≡ true → told_count Folder count kind ≡ count
+change_count (Fault device reached) count change = never change
+change_count other count change = refl
+
+count_after-push : {V T : Type 0} (count : ℕ) (list : List (EntrySeen V T)) (e : EntrySeen V T) → count_after Folder count (list ++ e ∷ []) ≡ told_count Folder (count_after Folder count list) e.kind
+unfolding count_after
+count_after-push count [] e = refl
+count_after-push count (first ∷ list) e = count_after-push (told_count Folder count first.kind) list e
+
 below_count : (reached count : ℕ) → reached < count → nat_le count reached ≡ false
 below_count reached count low = grind (arith, nat_tests)
 
@@ -72,7 +87,7 @@ no_heavier : (own weight added : ℕ) → weight ≡ min own (2 ^ 64 - 1) → mi
 no_heavier own weight added is same = omega arith
 
 module _ {V T : Type 0} (told : Bool) (c c' : Contents) (t t' : Tally) (limit first_faults : ℕ) (l l' : Ledger V T) where
-  pub same_store : SameStart told c c' t t' → l'.journal.base ≡ l.journal.base → l'.journal.bounds ≡ l.journal.bounds → (ledger_seen l').nodes ≡ (ledger_seen l).nodes
+  pub same_store : {failed : Bool} → SameStart told failed c c' t t' → l'.journal.base ≡ l.journal.base → l'.journal.bounds ≡ l.journal.bounds → (ledger_seen l').nodes ≡ (ledger_seen l).nodes
       → store_with told c' t' limit first_faults l'.journal l'.nodes ≡ store_with told c t limit first_faults l.journal l.nodes
   same_store start base bounds nodes =
       let first = same_if told c'.first c.first None start.first in
@@ -115,11 +130,12 @@ module _ {V T M : Type 0} (r : Rules V T) (I : V → Type 0) where
         }
 
     module _ (told : Bool) where
-      still : (c c' : Contents) (count count' weight : ℕ) (list : List (EntrySeen V T)) → (IsTrue told → c'.main ≡ c.main) → count ≤ count' → Kept r I s told c count weight list → Kept r I s told c' count' weight list
-      still c c' count count' weight list main later k =
+      still : (c c' : Contents) (count count' weight : ℕ) (list : List (EntrySeen V T)) → (IsTrue told → c'.main ≡ c.main) → count ≤ count' → (IsTrue told → count' ≡ count) → Kept r I s told c count weight list → Kept r I s told c' count' weight list
+      still c c' count count' weight list main later steady k =
           record {
             main = λ is. main_still c c' list (main is) (k.main is);
             weight_now = k.weight_now;
+            counted = λ is. steady is ∙ k.counted is;
             first = omega (arith, k.first);
             counts = λ greater low. k.counts greater (omega arith);
           }
@@ -141,6 +157,7 @@ module _ {V T M : Type 0} (r : Rules V T) (I : V → Type 0) where
           record {
             main = λ is. main_other c list e (unchanging e.kind plain) (fits is) (k.main is);
             weight_now = heavier_list weight added list e k.weight_now weighs;
+            counted = λ is. k.counted is ∙ sym (count_after-push s.folder.count list e ∙ plain_count e.kind (count_after Folder s.folder.count list) plain);
             first = k.first;
             counts = counted_more count list e k.counts (λ greater low. uncounted e.kind greater plain);
           }
@@ -169,6 +186,7 @@ module _ {V T M : Type 0} (r : Rules V T) (I : V → Type 0) where
           record {
             main = λ is. main_other c list e refl (fits is count' (rose_count count count' list rose k.first k.counts)) (k.main is);
             weight_now = heavier_list weight 0 list e k.weight_now refl;
+            counted = λ is. sym (count_after-push s.folder.count list e);
             first = omega (arith, k.first);
             counts = counted_more count' list e (λ greater low. k.counts greater (omega arith)) (λ greater low. below_count count' greater low);
           }
@@ -180,6 +198,7 @@ module _ {V T M : Type 0} (r : Rules V T) (I : V → Type 0) where
           record {
             main = λ is. main_change c c' list e plan change (fits is) (writes is) (now is) (k.main is);
             weight_now = heavier_list weight added list e k.weight_now weighs;
+            counted = λ is. k.counted is ∙ sym (count_after-push s.folder.count list e ∙ change_count e.kind (count_after Folder s.folder.count list) change);
             first = k.first;
             counts = counted_more count list e k.counts (λ greater low. uncounted_change e.kind greater change);
           }
@@ -189,39 +208,42 @@ module _ {V T M : Type 0} (r : Rules V T) (I : V → Type 0) where
           uncounted_change other count change = refl
 
 -- the folder, of which at most the scratch file, or what a stop may leave, is another
-pub record MainStays (told : Bool) (old new : Contents) (old_tally new_tally : Tally) : Type 0 where
-  pub start : SameStart told old new old_tally new_tally
+pub record MainStays (told failed : Bool) (old new : Contents) (old_tally new_tally : Tally) : Type 0 where
+  pub start : SameStart told failed old new old_tally new_tally
   pub main : IsTrue told → new.main ≡ old.main
 
 module _ (told : Bool) (c c' : Contents) (t t' : Tally) (call : FolderCall) (failed : Bool) (tallies : Tallies told call failed t t') where
-  pub changed_stays : (scratch : Scratch) → (IsTrue told → ChangesScratch scratch c c') → MainStays told c c' t t'
+  starts : (IsTrue told → c'.first ≡ c.first) → (IsTrue told → c'.alone ≡ c.alone) → SameStart told failed c c' t t'
+  starts first alone = record { first = first; alone = alone; most = tallies.most; later = tallies.counts.later; counted = λ so well. (tallies.due so).count ∙ (rw well refl) }
+
+  pub changed_stays : (scratch : Scratch) → (IsTrue told → ChangesScratch scratch c c') → MainStays told failed c c' t t'
   changed_stays scratch is =
-      record { start = record { first = λ so. (is so).first; alone = λ so. (is so).alone; most = tallies.most; later = tallies.counts.later }; main = λ so. (is so).main }
+      record { start = starts (λ so. (is so).first) (λ so. (is so).alone); main = λ so. (is so).main }
 
-  pub loosened_stays : (IsTrue told → LoosensScratch c c') → MainStays told c c' t t'
+  pub loosened_stays : (IsTrue told → LoosensScratch c c') → MainStays told failed c c' t t'
   loosened_stays is =
-      record { start = record { first = λ so. (is so).first; alone = λ so. (is so).alone; most = tallies.most; later = tallies.counts.later }; main = λ so. (is so).main }
+      record { start = starts (λ so. (is so).first) (λ so. (is so).alone); main = λ so. (is so).main }
 
-  pub equal_stays : (IsTrue told → c' ≡ c) → MainStays told c c' t t'
+  pub equal_stays : (IsTrue told → c' ≡ c) → MainStays told failed c c' t t'
   equal_stays is =
       record {
-        start = record { first = λ so. ap (λ (x : Contents). x.first) (is so); alone = λ so. ap (λ (x : Contents). x.alone) (is so); most = tallies.most; later = tallies.counts.later };
+        start = starts (λ so. ap (λ (x : Contents). x.first) (is so)) (λ so. ap (λ (x : Contents). x.alone) (is so));
         main = λ so. ap (λ (x : Contents). x.main) (is so);
       }
 
-  pub synced_stays : (IsTrue told → c' ≡ folder_synced c) → MainStays told c c' t t'
+  pub synced_stays : (IsTrue told → c' ≡ folder_synced c) → MainStays told failed c c' t t'
   synced_stays is =
       record {
-        start = record { first = λ so. ap (λ (x : Contents). x.first) (is so); alone = λ so. ap (λ (x : Contents). x.alone) (is so); most = tallies.most; later = tallies.counts.later };
+        start = starts (λ so. ap (λ (x : Contents). x.first) (is so)) (λ so. ap (λ (x : Contents). x.alone) (is so));
         main = λ so. ap (λ (x : Contents). x.main) (is so);
       }
 
-  pub renamed_starts : (IsTrue told → c' ≡ renamed c) → SameStart told c c' t t'
+  pub renamed_starts : (IsTrue told → c' ≡ renamed c) → SameStart told failed c c' t t'
   renamed_starts is =
-      record { first = λ so. ap (λ (x : Contents). x.first) (is so); alone = λ so. ap (λ (x : Contents). x.alone) (is so); most = tallies.most; later = tallies.counts.later }
+      starts (λ so. ap (λ (x : Contents). x.first) (is so)) (λ so. ap (λ (x : Contents). x.alone) (is so))
 
 -- a folder that was asked for room
-pub roomier_stays : (told : Bool) (c c' : Contents) (t t' : Tally) → (IsTrue told → c' ≡ c) → t' ≡ t → MainStays told c c' t t'
+pub roomier_stays : (told : Bool) (c c' : Contents) (t t' : Tally) → (IsTrue told → c' ≡ c) → t' ≡ t → MainStays told false c c' t t'
 roomier_stays told c c' t t' same tally =
     record {
       start =
@@ -230,13 +252,14 @@ roomier_stays told c c' t t' same tally =
             alone = λ so. ap (λ (x : Contents). x.alone) (same so);
             most = ap (λ (x : Tally). x.most) tally;
             later = let is = ap (λ (x : Tally). x.count) tally in omega (arith, is);
+            counted = λ so well. ap (λ (x : Tally). x.count) tally;
           };
       main = λ so. ap (λ (x : Contents). x.main) (same so);
     }
 
 -- a folder that no call was made of
-pub untouched : (told : Bool) (c : Contents) (t : Tally) → MainStays told c c t t
-untouched told c t = record { start = record { first = λ so. refl; alone = λ so. refl; most = refl; later = omega arith }; main = λ so. refl }
+pub untouched : (told : Bool) (c : Contents) (t : Tally) → MainStays told false c c t t
+untouched told c t = record { start = record { first = λ so. refl; alone = λ so. refl; most = refl; later = omega arith; counted = λ so well. refl }; main = λ so. refl }
 
 module _ {V T : Type 0} (r : Rules V T) (I : V → Type 0) (told : Bool) (c c' : Contents) (t t' : Tally) (limit first_faults : ℕ) (l l' : Ledger V T) where
   abbrev store_before : Store V (Unit {0})
@@ -257,7 +280,7 @@ module _ {V T : Type 0} (r : Rules V T) (I : V → Type 0) (told : Bool) (c c' :
   moved same list weight is weighs k = rw (same, is, weighs) k
 
   module _ (call : CallId) (kinds : List (KindSeen V T)) (added : ℕ) (owner : Option CallId) (room : ℕ) (enters : Enters call kinds added owner room (ledger_seen l) (ledger_seen l')) where
-    pub kept_kinds : MainStays told c c' t t' → list_all is_plain kinds ≡ true → (IsTrue told → FitInTurn r.meanings store_before call kinds l.journal.list)
+    pub kept_kinds : MainStays told false c c' t t' → list_all is_plain kinds ≡ true → (IsTrue told → FitInTurn r.meanings store_before call kinds l.journal.list)
         → min added (2 ^ 64 - 1) ≡ min (weight_of_kinds r kinds) (2 ^ 64 - 1) → KeptBefore → KeptAfter
     kept_kinds stays plain fits weighs kept =
         ∥∥₁_map kept
@@ -268,10 +291,10 @@ module _ {V T : Type 0} (r : Rules V T) (I : V → Type 0) (told : Bool) (c c' :
         _
         enters.list
         enters.weight
-        (push_kinds r I store_before told call kinds c' t'.count l.journal.weight added l.journal.list plain fits weighs (still r I store_before told c c' t.count t'.count l.journal.weight l.journal.list stays.main stays.start.later k)))
+        (push_kinds r I store_before told call kinds c' t'.count l.journal.weight added l.journal.list plain fits weighs (still r I store_before told c c' t.count t'.count l.journal.weight l.journal.list stays.main stays.start.later (λ so. stays.start.counted so refl) k)))
 
   module _ (call : CallId) (count : ℕ) (owner : Option CallId) (room : ℕ) (enters : Enters call (Fault Folder count ∷ []) 0 owner room (ledger_seen l) (ledger_seen l')) where
-    pub kept_fault : MainStays told c c' t t' → count ≡ t'.count → Rose t.count t'.count → (IsTrue told → FaultFits r.meanings store_before call l.journal.list) → KeptBefore → KeptAfter
+    pub kept_fault : {failed : Bool} → MainStays told failed c c' t t' → count ≡ t'.count → Rose t.count t'.count → (IsTrue told → FaultFits r.meanings store_before call l.journal.list) → KeptBefore → KeptAfter
     kept_fault stays is rose fits kept =
         ∥∥₁_map kept
         (λ k.
@@ -281,16 +304,16 @@ module _ {V T : Type 0} (r : Rules V T) (I : V → Type 0) (told : Bool) (c c' :
         _
         (enters.list ∙ ap (λ (n : ℕ). l.journal.list ++ record { who = call; kind = Fault Folder n } ∷ []) is)
         enters.weight
-        (push_fault r I store_before told call c' t.count t'.count l.journal.weight l.journal.list rose stays.start.later fits (still r I store_before told c c' t.count t.count l.journal.weight l.journal.list stays.main (omega arith) k)))
+        (push_fault r I store_before told call c' t.count t'.count l.journal.weight l.journal.list rose stays.start.later fits (still r I store_before told c c' t.count t.count l.journal.weight l.journal.list stays.main (omega arith) (λ so. refl) k)))
 
   module _ (call : CallId) (kind : KindSeen V T) (added : ℕ) (owner : Option CallId) (room : ℕ) (enters : Enters call (kind ∷ []) added owner room (ledger_seen l) (ledger_seen l')) where
-    pub kept_change : SameStart told c c' t t' → (plan : List ℕ) → is_change kind ≡ true → (IsTrue told → FitInTurn r.meanings store_before call (kind ∷ []) l.journal.list)
+    pub kept_change : SameStart told false c c' t t' → (plan : List ℕ) → is_change kind ≡ true → (IsTrue told → FitInTurn r.meanings store_before call (kind ∷ []) l.journal.list)
         → (IsTrue told → WritesChange r I store_before l.journal.list (record { who = call; kind = kind }) plan) → (IsTrue told → c'.main ≡ Some plan)
         → added ≡ min (kind_weight r.weight (λ v. length (r.encoded v)) kind) (2 ^ 64 - 1) → KeptBefore → KeptAfter
     kept_change start plan change fits writes now weighs kept =
         ∥∥₁_map kept
         (λ k.
-        let later : Kept r I store_before told c t'.count l.journal.weight l.journal.list = still r I store_before told c c t.count t'.count l.journal.weight l.journal.list (λ so. refl) start.later k in
+        let later : Kept r I store_before told c t'.count l.journal.weight l.journal.list = still r I store_before told c c t.count t'.count l.journal.weight l.journal.list (λ so. refl) start.later (λ so. start.counted so refl) k in
         moved
         (same_store told c c' t t' limit first_faults l l' start enters.base enters.bounds enters.nodes)
         _
@@ -300,7 +323,7 @@ module _ {V T : Type 0} (r : Rules V T) (I : V → Type 0) (told : Bool) (c c' :
         (push_change r I store_before told c c' t'.count l.journal.weight added l.journal.list (record { who = call; kind = kind }) plan change (λ so. (fits so).0) writes now (omega (arith, weighs)) later))
 
   -- a turn that adds nothing
-  pub kept_still : MainStays told c c' t t' → ledger_seen l' ≡ ledger_seen l → KeptBefore → KeptAfter
+  pub kept_still : MainStays told false c c' t t' → ledger_seen l' ≡ ledger_seen l → KeptBefore → KeptAfter
   kept_still stays same kept =
       ∥∥₁_map kept
       (λ k.
@@ -310,4 +333,4 @@ module _ {V T : Type 0} (r : Rules V T) (I : V → Type 0) (told : Bool) (c c' :
       _
       (ap (λ (x : LedgerSeen V T). x.list) same)
       (ap (λ (x : LedgerSeen V T). x.weight) same)
-      (still r I store_before told c c' t.count t'.count l.journal.weight l.journal.list stays.main stays.start.later k))
+      (still r I store_before told c c' t.count t'.count l.journal.weight l.journal.list stays.main stays.start.later (λ so. stays.start.counted so refl) k))

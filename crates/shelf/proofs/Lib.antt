@@ -11,6 +11,7 @@ pub mod FreshLemmas
 pub mod GoingOn
 pub mod ImageLemmas
 pub mod KeptLemmas
+pub mod LastRaises
 pub mod LateCallLemmas
 pub mod LedgerLemmas
 pub mod LegalLemmas

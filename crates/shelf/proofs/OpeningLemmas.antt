@@ -12,7 +12,7 @@ use Rattle.shelf.specs.declared.ledger.Ledger.{Ledger}
 use Rattle.shelf.specs.declared.store.Store.{Store}
 use Rattle.store_traits.specs.declared.ids.NodeId.{NodeId}
 use Rattle.shelf.specs.Base.{ReadsAs}
-use Rattle.shelf.specs.FaultCounts.{RaisesCount}
+use Rattle.shelf.specs.FaultCounts.{RaisesCount, count_after}
 use Rattle.shelf.specs.Kept.{Kept}
 use Rattle.shelf.specs.Legal.{Fits}
 use Rattle.shelf.specs.NodeStates.{ids}
@@ -26,9 +26,9 @@ told_is false x hidden is = absurd cc
 
 module _ {V T : Type 0} (r : Rules V T) (I : V → Type 0) (told : Bool) (c c' : Contents) (t t' : Tally) (limit first_faults : ℕ) (l : Ledger V T) where
   -- nothing has happened yet
-  pub kept_new : l.journal.list ≡ [] → l.journal.weight ≡ 0 → (IsTrue told → Starts c c') → first_faults ≤ t'.count → (IsTrue told → ReadsAs r.reads r.absent limit c.main l.journal.base)
+  pub kept_new : l.journal.list ≡ [] → l.journal.weight ≡ 0 → (IsTrue told → Starts c c') → t'.count ≡ first_faults → (IsTrue told → ReadsAs r.reads r.absent limit c.main l.journal.base)
       → ∥ Kept r I (store_with told c' t' limit first_faults l.journal l.nodes) told c' t'.count l.journal.weight l.journal.list ∥₁
-  unfolding main_of edition_of weight_of
+  unfolding main_of edition_of weight_of count_after
   kept_new none weightless starts counted reads =
       let s = store_with told c' t' limit first_faults l.journal l.nodes in
       let empty : Kept r I s told c' t'.count 0 [] =
@@ -43,7 +43,8 @@ module _ {V T : Type 0} (r : Rules V T) (I : V → Type 0) (told : Bool) (c c' :
               changed = λ some. absurd (some refl);
             };
         weight_now = omega arith;
-        first = counted;
+        counted = λ is. counted;
+        first = omega (arith, counted);
         counts = λ greater low. refl;
       } in
       rw (none, weightless) (∣ empty ∣₁)
@@ -75,6 +76,7 @@ module _ {V T M : Type 0} (r : Rules V T) (I : V → Type 0) (s : Store V M) (no
               changed = λ some. let stored = was.changed some in record { value = stored.value; held = stored.held; may = record { known = stored.may.known; fits = stored.may.fits } };
             };
         weight_now = k.weight_now;
+        counted = k.counted;
         first = k.first;
         counts = k.counts;
       }

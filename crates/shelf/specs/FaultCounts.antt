@@ -1,5 +1,5 @@
 -- Each Fault has a count that its device had not reached.
-use Rattle.std.specs.Prelude.{◌≡◌, ◌⊎◌, ◌<◌, ◌-◌, ◌^◌, ℕ, Bool, true, false, ◌&&◌, nat_le, List}
+use Rattle.std.specs.Prelude.{◌≡◌, ◌⊎◌, ◌<◌, ◌-◌, ◌^◌, ℕ, Bool, true, false, ◌&&◌, nat_le, List, [], ◌∷◌, if◌then◌else◌}
 use Rattle.std.specs.List.{list_any}
 use Rattle.hist_journal.specs.declared.device.Device.{Device}
 use Rattle.hist_journal.specs.declared.device.Device.TheVariants.{Folder, Legacy}
@@ -33,3 +33,14 @@ module _ {V T M : Type 0} where
   abbrev pub RaisesCount : Store V M → List (EntrySeen V T) → KindSeen V T → Type 0
   RaisesCount s before (Fault device count) = IsNewCount s before device count ⊎ (count ≡ 2 ^ 64 - 1)
   RaisesCount s before other = Unit {0}
+
+module _ {V T : Type 0} where
+  -- the count that an entry tells of the device, or the count before
+  abbrev pub told_count : Device → ℕ → KindSeen V T → ℕ
+  told_count device count (Fault failed reached) = if is_device device failed then reached else count
+  told_count device count other = count
+
+  -- the count of the device's last Fault, or the count before
+  unfoldable pub count_after : Device → ℕ → List (EntrySeen V T) → ℕ
+  count_after device count [] = count
+  count_after device count (e ∷ es) = count_after device (told_count device count e.kind) es

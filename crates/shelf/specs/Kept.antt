@@ -9,7 +9,7 @@ use Rattle.hist_journal.specs.declared.seen.EntrySeen.{EntrySeen}
 use Rattle.hist_journal.specs.Folds.{edition_of}
 use Rattle.shelf.specs.declared.store.Store.{Store}
 use Rattle.shelf.specs.Base.{HasItsBase}
-use Rattle.shelf.specs.FaultCounts.{has_reached}
+use Rattle.shelf.specs.FaultCounts.{count_after, has_reached}
 use Rattle.shelf.specs.Images.{main_at}
 use Rattle.shelf.specs.Legal.{Legal, value_at}
 use Rattle.shelf.specs.Rules.{Rules, weight_at}
@@ -38,6 +38,8 @@ module _ {V T M : Type 0} (r : Rules V T) (IsValue : V → Type 0) (s : Store V 
   pub record Kept (told : Bool) (folder : Contents) (count weight : ℕ) (list : List (EntrySeen V T)) : Type 0 where
     pub main : IsTrue told → KeptMain folder list
     pub weight_now : weight ≡ weight_at r list
-    -- the count of the folder is not less than at the start, nor than that of a Fault
+    -- a folder that tells what it does counts as the history: by its last Fault, or as at the start
+    pub counted : IsTrue told → count ≡ count_after Folder s.folder.count list
+    -- of any folder, the count is not less than at the start, nor than that of a Fault
     pub first : s.folder.count ≤ count
     pub counts : (greater : ℕ) → count < greater → list_any (λ e. has_reached Folder greater e.kind) list ≡ false

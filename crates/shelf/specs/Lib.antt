@@ -13,6 +13,7 @@ pub mod ExampleStore
 pub mod FaultCounts
 pub mod Images
 pub mod Kept
+pub mod LastRaise
 pub mod LawfulExamples
 pub mod Ledger
 pub mod Legal

@@ -31,14 +31,15 @@ abbrev pub IsOfEdition : {V : Type 0} → ℕ → Loaded V → Type 0
 IsOfEdition edition (Value given) = given.edition ≡ edition
 IsOfEdition edition other = Unit {0}
 
--- the folder was asked what main is, or was not
-abbrev pub MayAsk : Bool → Tally → Tally → Type 0
-MayAsk told old new = (new ≡ old) ⊎ Tallies told ReadMain false old new
+module _ {F : Type 0} (told : Bool) (tally : F → Tally) where
+  -- the folder was asked what main is, or was left alone
+  abbrev pub MayAsk : F → F → Type 0
+  MayAsk old new = (new ≡ old) ⊎ Tallies told ReadMain false (tally old) (tally new)
 
--- a read that met want of memory may have asked the folder or not; any other asked it once
-abbrev pub Asks : {V : Type 0} → Bool → Loaded V → Tally → Tally → Type 0
-Asks told NoMemory old new = MayAsk told old new
-Asks told other old new = Tallies told ReadMain (is_faulted other) old new
+  -- a read that met want of memory may have asked the folder or not; any other asked it once
+  abbrev pub Asks : {V : Type 0} → Loaded V → F → F → Type 0
+  Asks NoMemory old new = MayAsk old new
+  Asks other old new = Tallies told ReadMain (is_faulted other) (tally old) (tally new)
 
 -- no file, or bytes within the limit, decoded
 module _ {V : Type 0} (reads : List ℕ → V → Type 0) (absent : V) where

@@ -1,4 +1,13 @@
-pub mod GrowthLemmas
+pub mod Applying
+pub mod Chosen
+pub mod ChosenRows
+pub mod Choosing
+pub mod EffectsMade
+pub mod GaveTests
+pub mod LockKept
+pub mod LockLemmas
+pub mod OneTurn
 pub mod Played
-pub mod StepLemmas
+pub mod PlayedTurns
 pub mod Tallied
+pub mod Waiting

@@ -15,7 +15,8 @@ went_well asked tally = record tally { due = taken_in asked tally.due }
 abbrev pub has_failed : FolderCall → Tally → Tally
 has_failed asked tally = record tally { count = one_more tally.count; due = taken_in asked tally.due }
 
-pub well_so : (told : Bool) (asked : FolderCall) (tally : Tally) → (not (plan.fails asked tally.due) && nat_lt tally.count (2 ^ 64 - 1)) ≡ true → Tallies told asked false tally (went_well asked tally)
+pub well_so : (told : Bool) (asked : FolderCall) (tally : Tally) → (not (plan.fails asked tally.due) && nat_lt tally.count (2 ^ 64 - 1)) ≡ true
+    → Tallies told asked false tally (went_well asked tally)
 well_so told asked tally is =
     let parts = and_parts (not (plan.fails asked tally.due)) (nat_lt tally.count (2 ^ 64 - 1)) is in
     let below : nat_lt tally.count (2 ^ 64 - 1) ≡ true = parts.1 in
@@ -26,7 +27,8 @@ well_so told asked tally is =
       due = λ is_told. record { failed = sym (not-true (plan.fails asked tally.due) parts.0); count = refl; due = refl };
     }
 
-pub failed_so : (told : Bool) (asked : FolderCall) (tally : Tally) → (plan.fails asked tally.due && nat_lt tally.count (2 ^ 64 - 1)) ≡ true → Tallies told asked true tally (has_failed asked tally)
+pub failed_so : (told : Bool) (asked : FolderCall) (tally : Tally) → (plan.fails asked tally.due && nat_lt tally.count (2 ^ 64 - 1)) ≡ true
+    → Tallies told asked true tally (has_failed asked tally)
 failed_so told asked tally is =
     let parts = and_parts (plan.fails asked tally.due) (nat_lt tally.count (2 ^ 64 - 1)) is in
     let below : nat_lt tally.count (2 ^ 64 - 1) ≡ true = parts.1 in

@@ -1,10 +1,24 @@
--- A call in progress: who makes it, where it is, and what it still asks for.
-use Rattle.std.specs.Prelude.{ℕ, Bool, true, false, Option, if◌then◌else◌}
+-- A call in progress: what it asks for, who makes it, where it is, and what it is answered.
+use Rattle.std.specs.Prelude.{ℕ, Bool, true, false, Option, if◌then◌else◌, Result, Ok, Err}
 use Rattle.store_traits.specs.declared.ids.CallId.{CallId}
 use Rattle.store_traits.specs.declared.step.Step.{Step}
 use Rattle.store_traits.specs.declared.step.Step.TheVariants as step
+use Rattle.store_traits.specs.declared.update_error.UpdateError.{UpdateError}
 use Rattle.hist_journal.specs.declared.seen.KindSeen.{KindSeen}
 use Rattle.scratch_rename.specs.Filling.{Filling}
+use Rattle.step_table.specs.declared.progress.Progress.{Progress}
+use Rattle.step_table.specs.declared.progress.Progress.TheVariants.{Moved, Blocked, Ended}
+
+-- what a call asks for
+pub data Ask (T : Type 0) : Type 0 where
+  Update : (edit : T) → Ask T
+  Read : Ask T
+
+-- what a call is answered, whatever it asked for
+pub data Reply (V : Type 0) : Type 0 where
+  Updated : (edition : ℕ) → Reply V
+  Gave : (edition : ℕ) → (value : V) → Reply V
+  Failed : (error : UpdateError) → Reply V
 
 -- a value change that is being written, and how far its text is in the scratch file
 pub record Plan (V T : Type 0) : Type 0 where
@@ -16,24 +30,32 @@ pub data Ending (T : Type 0) : Type 0 where
   Changed : (place : ℕ) → Ending T
   Kept : (edit : T) → Ending T
 
+-- what main is read for
+pub data Purpose : Type 0 where
+  Initialise : Purpose
+  Serve : Purpose
+
+-- how far a change is written
+pub data Stage : Type 0 where
+  Creating : Stage
+  Appending : Stage
+  SyncingScratch : Stage
+  Renaming : Stage
+
 -- the next step of a call, with what the call carries to it
 pub data At (V T : Type 0) : Type 0 where
-  -- I1 or U1, whichever it is by then
-  First : (edit : T) → At V T
-  -- I2
-  ReadingFirst : (edit : T) → At V T
+  -- I1, or U1 for an update and V2 for a read, whichever it is by then
+  First : (ask : Ask T) → At V T
+  -- I2, or U2 for an update and V3 for a read
+  Reading : (purpose : Purpose) → (ask : Ask T) → At V T
   -- I3, with the value that was read
-  Migrating : (edit : T) → (value : V) → At V T
+  Migrating : (ask : Ask T) → (value : V) → At V T
   -- I6
-  Finishing : (edit : T) → At V T
-  -- U2
-  Reading : (edit : T) → At V T
-  -- U3 to U7
+  Finishing : (ask : Ask T) → At V T
+  -- U3
   Raising : (plan : Plan V T) → At V T
-  Creating : (plan : Plan V T) → At V T
-  Appending : (plan : Plan V T) → At V T
-  SyncingScratch : (plan : Plan V T) → At V T
-  Renaming : (plan : Plan V T) → At V T
+  -- U4 to U7
+  Writing : (stage : Stage) → (plan : Plan V T) → At V T
   -- U8
   SyncingFolder : (ending : Ending T) → At V T
   -- it has ended
@@ -44,8 +66,33 @@ pub record Call (V T : Type 0) : Type 0 where
   pub at : At V T
   -- how many entries there were when its earliest turn began; none before that
   pub since : Option ℕ
-  -- how many entries it may still add without memory
-  pub room : ℕ
+
+module _ {V : Type 0} where
+  -- an update's answer, among all answers
+  abbrev pub reply_of : Result ℕ UpdateError → Reply V
+  reply_of (Ok edition) = Updated edition
+  reply_of (Err error) = Failed error
+
+  abbrev pub replied : Progress (Result ℕ UpdateError) → Progress (Reply V)
+  replied Moved = Moved
+  replied Blocked = Blocked
+  replied (Ended answer) = Ended (reply_of answer)
+
+-- the steps by what they do
+abbrev pub first_step : {T : Type 0} → Ask T → (ready : Bool) → Step
+first_step (Update edit) ready = if ready then step.U1 else step.I1
+first_step Read ready = if ready then step.V2 else step.I1
+
+abbrev pub reading_step : {T : Type 0} → Purpose → Ask T → Step
+reading_step Initialise ask = step.I2
+reading_step Serve (Update edit) = step.U2
+reading_step Serve Read = step.V3
+
+abbrev pub writing_step : Stage → Step
+writing_step Creating = step.U4
+writing_step Appending = step.U5
+writing_step SyncingScratch = step.U6
+writing_step Renaming = step.U7
 
 module _ {V T : Type 0} where
   -- the call has ended
@@ -55,24 +102,16 @@ module _ {V T : Type 0} where
 
   -- a turn in which the call takes the lock, if it is free
   abbrev pub is_first : At V T → Bool
-  is_first (First edit) = true
+  is_first (First ask) = true
   is_first other = false
 
   -- the step of a call, where `ready` says whether its node is initialised; a call that ended has none, and I1 stands for it
-  abbrev pub step_at : Bool → At V T → Step
-  step_at ready (First edit) = if ready then step.U1 else step.I1
-  step_at ready (ReadingFirst edit) = step.I2
-  step_at ready (Migrating edit value) = step.I3
-  step_at ready (Finishing edit) = step.I6
-  step_at ready (Reading edit) = step.U2
+  abbrev pub step_at : (ready : Bool) → At V T → Step
+  step_at ready (First ask) = first_step ask ready
+  step_at ready (Reading purpose ask) = reading_step purpose ask
+  step_at ready (Migrating ask value) = step.I3
+  step_at ready (Finishing ask) = step.I6
   step_at ready (Raising plan) = step.U3
-  step_at ready (Creating plan) = step.U4
-  step_at ready (Appending plan) = step.U5
-  step_at ready (SyncingScratch plan) = step.U6
-  step_at ready (Renaming plan) = step.U7
+  step_at ready (Writing stage plan) = writing_step stage
   step_at ready (SyncingFolder ending) = step.U8
   step_at ready Gone = step.I1
-
-  -- the call once it has ended: it keeps no room
-  abbrev pub ended : Call V T → Call V T
-  ended call = record call { at = Gone; room = 0 }

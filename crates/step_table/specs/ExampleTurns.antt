@@ -1,8 +1,7 @@
 -- Calls on the small store, whose turns they take, and what is there in the end.
-use Rattle.std.specs.Prelude.{ℕ, suc, zero, List, [], ◌∷◌, ◌++◌, Option, Some, None, true, Result, Ok, Err}
+use Rattle.std.specs.Prelude.{ℕ, suc, zero, List, [], ◌∷◌, ◌++◌, Option, Some, None, true}
 use Rattle.store_traits.specs.declared.ids.CallId.{CallId}
 use Rattle.store_traits.specs.declared.step.Step.TheVariants.{U6}
-use Rattle.store_traits.specs.declared.update_error.UpdateError.{UpdateError}
 use Rattle.store_traits.specs.declared.update_error.UpdateError.TheVariants.{Died, NotDurable, StorageFault}
 use Rattle.folder_disk.specs.Contents.{Contents, Images}
 use Rattle.folder_disk.specs.Contents as folder
@@ -17,7 +16,7 @@ use Rattle.shelf.specs.declared.store.Store.{Store}
 use Rattle.shelf.specs.ExampleStore.{meanings, encoded, reads, empty, holds_one, Entry, n1, n2}
 use Rattle.shelf.specs.LawfulExamples as lawful
 use Rattle.shelf.specs.Rules.{Rules}
-use Rattle.step_table.specs.Calls.{Call, First, Gone}
+use Rattle.step_table.specs.Calls.{Call, First, Gone, Update, Reply, Updated, Failed}
 use Rattle.step_table.specs.declared.progress.Progress.TheVariants.{Moved, Blocked, Ended}
 use Rattle.step_table.specs.Runs.{Did, Scene}
 use Rattle.step_table.specs.World.{World}
@@ -34,11 +33,11 @@ abbrev pub b : ℕ → CallId
 b number = record { node = n2; client = record { 0 = 2 }; number = number }
 
 abbrev pub update : CallId → ExampleEdit → Call ℕ ExampleEdit
-update id edit = record { id = id; at = First edit; since = None; room = 0 }
+update id edit = record { id = id; at = First (Update edit); since = None }
 
 -- a call in the end, whose earliest turn found so many entries
 abbrev pub over : CallId → ℕ → Call ℕ ExampleEdit
-over id since = record { id = id; at = Gone; since = Some since; room = 0 }
+over id since = record { id = id; at = Gone; since = Some since }
 
 -- a folder in which a machine stop leaves main, and which had another main at the start
 abbrev pub holding : Option (List ℕ) → Option (List ℕ) → Contents
@@ -56,24 +55,24 @@ abbrev pub at_end : Store ℕ (Unit {0}) → List ℕ → List Entry → ℕ →
 at_end s main history version counted =
     record { told = true; folder = holding s.main (Some main); sections = s.sections; owner = None; history = history; deaths = []; version = version; tally = counted }
 
-abbrev pub times : ℕ → List Did → List Did
+abbrev pub times : ℕ → List (Did ℕ) → List (Did ℕ)
 times zero turns = []
 times (suc n) turns = turns ++ times n turns
 
 -- the call at this place goes on, waits for the lock, or ends
-abbrev pub goes : ℕ → Did
+abbrev pub goes : ℕ → Did ℕ
 goes place = record { place = place; gave = Moved }
 
-abbrev pub waits : ℕ → Did
+abbrev pub waits : ℕ → Did ℕ
 waits place = record { place = place; gave = Blocked }
 
-abbrev pub answers : ℕ → Result ℕ UpdateError → Did
-answers place answer = record { place = place; gave = Ended answer }
+abbrev pub answers : ℕ → Reply ℕ → Did ℕ
+answers place reply = record { place = place; gave = Ended reply }
 
 -- two nodes add 1, and the second waits for the first
-abbrev pub two_nodes : List Did
+abbrev pub two_nodes : List (Did ℕ)
 two_nodes =
-    times 5 (goes 0 ∷ []) ++ waits 1 ∷ times 6 (goes 0 ∷ waits 1 ∷ []) ++ answers 0 (Ok 1) ∷ times 11 (goes 1 ∷ []) ++ answers 1 (Ok 2) ∷ []
+    times 5 (goes 0 ∷ []) ++ waits 1 ∷ times 6 (goes 0 ∷ waits 1 ∷ []) ++ answers 0 (Updated 1) ∷ times 11 (goes 1 ∷ []) ++ answers 1 (Updated 2) ∷ []
 
 abbrev pub two_nodes_start : Scene ℕ ExampleEdit
 two_nodes_start = record { world = at_start empty; calls = update (a 1) (Add 1) ∷ update (b 1) (Add 1) ∷ [] }
@@ -86,8 +85,8 @@ two_nodes_end =
     }
 
 -- 1 is set where it is there already
-abbrev pub equal_value : List Did
-equal_value = times 6 (goes 0 ∷ []) ++ answers 0 (Ok 0) ∷ []
+abbrev pub equal_value : List (Did ℕ)
+equal_value = times 6 (goes 0 ∷ []) ++ answers 0 (Updated 0) ∷ []
 
 abbrev pub equal_value_start : Scene ℕ ExampleEdit
 equal_value_start = record { world = at_start holds_one; calls = update (a 1) (Set 1) ∷ [] }
@@ -104,10 +103,10 @@ abbrev pub deadly : Store ℕ (Unit {0})
 deadly = record empty { deaths = record { call = a 1; step = U6 } ∷ [] }
 
 -- two clients go in turn; the first dies behind its raise, the second updates, and a later call of the dead node ends at once
-abbrev pub death_after_raise : List Did
+abbrev pub death_after_raise : List (Did ℕ)
 death_after_raise =
     times 3 (goes 0 ∷ waits 1 ∷ []) ++ goes 0 ∷ goes 1 ∷ times 3 (waits 0 ∷ goes 1 ∷ []) ++ times 5 (goes 0 ∷ waits 1 ∷ [])
-    ++ answers 0 (Err (Died 4)) ∷ times 7 (goes 1 ∷ []) ++ answers 1 (Ok 1) ∷ answers 2 (Err (Died 4)) ∷ []
+    ++ answers 0 (Failed (Died 4)) ∷ times 7 (goes 1 ∷ []) ++ answers 1 (Updated 1) ∷ answers 2 (Failed (Died 4)) ∷ []
 
 abbrev pub death_start : Scene ℕ ExampleEdit
 death_start = record { world = at_start deadly; calls = update (a 1) (Set 1) ∷ update (b 1) (Set 2) ∷ update (a 2) (Set 3) ∷ [] }
@@ -124,8 +123,8 @@ abbrev pub first_rename : List Planned
 first_rename = record { call = Rename; number = 1 } ∷ []
 
 -- the rename of a call fails, and the next call of the client goes well
-abbrev pub rename_fails : List Did
-rename_fails = times 10 (goes 0 ∷ []) ++ answers 0 (Err (StorageFault 3)) ∷ times 7 (goes 1 ∷ []) ++ answers 1 (Ok 1) ∷ []
+abbrev pub rename_fails : List (Did ℕ)
+rename_fails = times 10 (goes 0 ∷ []) ++ answers 0 (Failed (StorageFault 3)) ∷ times 7 (goes 1 ∷ []) ++ answers 1 (Updated 1) ∷ []
 
 abbrev pub rename_fails_start : Scene ℕ ExampleEdit
 rename_fails_start = record { world = record (at_start empty) { tally = tally 0 first_rename no_calls }; calls = update (a 1) (Set 1) ∷ update (a 2) (Set 2) ∷ [] }
@@ -142,8 +141,8 @@ abbrev pub first_sync : List Planned
 first_sync = record { call = SyncFolder; number = 1 } ∷ []
 
 -- the sync of the folder fails behind the rename
-abbrev pub sync_fails : List Did
-sync_fails = times 11 (goes 0 ∷ []) ++ answers 0 (Err (NotDurable 3)) ∷ []
+abbrev pub sync_fails : List (Did ℕ)
+sync_fails = times 11 (goes 0 ∷ []) ++ answers 0 (Failed (NotDurable 3)) ∷ []
 
 abbrev pub sync_fails_start : Scene ℕ ExampleEdit
 sync_fails_start = record { world = record (at_start empty) { tally = tally 0 first_sync no_calls }; calls = update (a 1) (Set 1) ∷ [] }

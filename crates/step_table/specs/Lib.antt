@@ -1,12 +1,10 @@
-pub mod ApplyRow
 pub mod Calls
 pub mod Effects
 pub mod ExampleTurns
-pub mod LastRows
-pub mod LockRow
-pub mod ReadRows
+pub mod Laws
+pub mod Requests
+pub mod Rows
 pub mod Runs
 pub mod SingleTurns
 pub mod Turn
 pub mod World
-pub mod WriteRows

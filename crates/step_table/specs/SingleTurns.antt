@@ -5,21 +5,21 @@ use Rattle.folder_disk.specs.Contents.{Images}
 use Rattle.folder_disk.specs.Contents as folder
 use Rattle.shelf.specs.declared.examples.ExampleEdit.{ExampleEdit}
 use Rattle.shelf.specs.declared.examples.ExampleEdit.TheVariants.{Set}
-use Rattle.step_table.specs.Calls.{At, Changed, Call, First, ReadingFirst, Creating, SyncingScratch, SyncingFolder, Gone}
+use Rattle.step_table.specs.Calls.{At, Changed, Call, First, Reading, Initialise, Writing, Creating, SyncingScratch, SyncingFolder, Gone, Update}
 use Rattle.shelf.specs.ExampleStore as example
 use Rattle.step_table.specs.ExampleTurns.{a, b, at_start, deadly}
 use Rattle.shelf.specs.LawfulExamples as lawful
 use Rattle.step_table.specs.World.{Turned, World}
 
--- the first call of client a, at a step with room for so many entries
-abbrev pub at_step : At ℕ ExampleEdit → ℕ → Call ℕ ExampleEdit
-at_step at room = record { id = a 1; at = at; since = Some 0; room = room }
+-- the first call of client a, at a step
+abbrev pub at_step : At ℕ ExampleEdit → Call ℕ ExampleEdit
+at_step at = record { id = a 1; at = at; since = Some 0 }
 
 abbrev pub gone : Call ℕ ExampleEdit
-gone = at_step Gone 0
+gone = at_step Gone
 
 abbrev pub one : At ℕ ExampleEdit
-one = Creating (record { change = Edit (Set 1); text = record { written = []; rest = 1 ∷ [] } })
+one = Writing Creating (record { change = Edit (Set 1); text = record { written = []; rest = 1 ∷ [] } })
 
 -- the node died and lives again since the call began
 abbrev pub restarted : World ℕ ExampleEdit
@@ -27,16 +27,16 @@ restarted = record (at_start example.empty) { history = lawful.former_life; vers
 
 -- the call ends, and nothing changes
 abbrev pub former_life_ends : Turned ℕ ExampleEdit
-former_life_ends = record { world = restarted; call = at_step one 2; world_after = restarted; call_after = gone }
+former_life_ends = record { world = restarted; call = at_step one; world_after = restarted; call_after = gone }
 
 -- the call makes its scratch file
 abbrev pub former_life_goes_on : Turned ℕ ExampleEdit
 former_life_goes_on =
     record {
       world = restarted;
-      call = at_step one 2;
+      call = at_step one;
       world_after = record restarted { folder = record restarted.folder { scratch = folder.Unsynced [] } };
-      call_after = at_step (SyncingScratch (record { change = Edit (Set 1); text = record { written = []; rest = 1 ∷ [] } })) 2;
+      call_after = at_step (Writing SyncingScratch (record { change = Edit (Set 1); text = record { written = []; rest = 1 ∷ [] } }));
     }
 
 -- another call owns the lock
@@ -45,7 +45,7 @@ owned = record (at_start example.empty) { owner = Some (b 1) }
 
 -- the call takes it all the same
 abbrev pub lock_taken_from_another : Turned ℕ ExampleEdit
-lock_taken_from_another = record { world = owned; call = at_step (First (Set 1)) 0; world_after = record owned { owner = Some (a 1) }; call_after = at_step (ReadingFirst (Set 1)) 1 }
+lock_taken_from_another = record { world = owned; call = at_step (First (Update (Set 1))); world_after = record owned { owner = Some (a 1) }; call_after = at_step (Reading Initialise (Update (Set 1))) }
 
 -- main was renamed, and a machine stop may still leave none
 abbrev pub renamed : World ℕ ExampleEdit
@@ -62,7 +62,7 @@ abbrev pub acknowledged_without_sync : Turned ℕ ExampleEdit
 acknowledged_without_sync =
     record {
       world = renamed;
-      call = at_step (SyncingFolder (Changed 3)) 1;
+      call = at_step (SyncingFolder (Changed 3));
       world_after =
           record renamed {
             owner = None;
@@ -80,7 +80,7 @@ abbrev pub lock_left_held : Turned ℕ ExampleEdit
 lock_left_held =
     record {
       world = doomed;
-      call = at_step (SyncingScratch (record { change = Edit (Set 1); text = record { written = 1 ∷ []; rest = [] } })) 2;
+      call = at_step (Writing SyncingScratch (record { change = Edit (Set 1); text = record { written = 1 ∷ []; rest = [] } }));
       world_after = record doomed { deaths = []; history = example.a 1 (Inited example.n1) ∷ example.a 1 Raise ∷ example.a 1 (Death example.n1) ∷ [] };
       call_after = gone;
     }

@@ -1,8 +1,8 @@
 //! Runs of the step table on the small store of the worked histories: the turns of each, from the world in which it starts
 //! to the one in which it ends. The histories that they leave are among the lawful ones.
-ghost use Rattle.std.specs.Prelude.{Ok, Err};
 ghost use Rattle.store_traits.specs.declared.update_error.UpdateError.TheVariants.{Died};
 ghost use Rattle.shelf.specs.ExampleStore as example;
+ghost use Rattle.step_table.specs.Calls.{Failed, Updated};
 ghost use Rattle.step_table.specs.ExampleTurns as turns;
 ghost use Rattle.step_table.specs.declared.progress.Progress.TheVariants.{Moved, Ended};
 ghost use Rattle.step_table.specs.Runs.{Run};
@@ -28,9 +28,9 @@ pub fn runs_start_where_a_session_begins()
 
 /// A call of a node's former life ends; and none of the other turns follows the table.
 pub fn wrong_turns_are_refused()
-    ensures former_life_ends { Turn turns.rules example.empty single.former_life_ends (Ended (Err (Died 3))) }
+    ensures former_life_ends { Turn turns.rules example.empty single.former_life_ends (Ended (Failed (Died 3))) }
     ensures former_life_goes_on { Turn turns.rules example.empty single.former_life_goes_on Moved → ⊥ }
     ensures lock_taken_from_another { Turn turns.rules example.empty single.lock_taken_from_another Moved → ⊥ }
-    ensures acknowledged_without_sync { Turn turns.rules example.empty single.acknowledged_without_sync (Ended (Ok 1)) → ⊥ }
-    ensures lock_left_held { Turn turns.rules turns.deadly single.lock_left_held (Ended (Err (Died 3))) → ⊥ }
+    ensures acknowledged_without_sync { Turn turns.rules example.empty single.acknowledged_without_sync (Ended (Updated 1)) → ⊥ }
+    ensures lock_left_held { Turn turns.rules turns.deadly single.lock_left_held (Ended (Failed (Died 3))) → ⊥ }
 {}

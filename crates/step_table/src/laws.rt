@@ -1,16 +1,17 @@
 //! What holds of every turn, whatever codec and transforms the store has: each law is the contract of a function that does
-//! nothing.
-ghost use Rattle.std.specs.Prelude.{◌≡◌, ◌++◌, ℕ, List, false, true, Some, IsTrue, Result, Err};
-ghost use Rattle.store_traits.specs.declared.update_error.UpdateError.{UpdateError};
+//! nothing. Most of them hold of any effect that is applied, so no row of the table is named in their proofs.
+ghost use Rattle.std.specs.Prelude.{◌≡◌, ◌≢◌, ◌+◌, false, true, Some, IsTrue};
+ghost use Rattle.store_traits.specs.declared.ids.CallId.{CallId};
 ghost use Rattle.store_traits.specs.declared.update_error.UpdateError.TheVariants.{NoMemory};
 ghost use Rattle.file_lock.specs.Owner.{IsAnother};
-ghost use Rattle.hist_journal.specs.declared.seen.EntrySeen.{EntrySeen};
+ghost use Rattle.hist_journal.specs.Folds.{raises_of};
 ghost use Rattle.shelf.specs.declared.store.Store.{Store};
-ghost use Rattle.step_table.specs.Calls.{ended, is_first};
+ghost use Rattle.step_table.specs.Calls.{Failed, Gone, Reply, is_first};
 ghost use Rattle.step_table.specs.declared.progress.Progress.{Progress};
 ghost use Rattle.step_table.specs.declared.progress.Progress.TheVariants.{Blocked, Ended};
-ghost use Rattle.step_table.specs.Turn.{Turn, begin, has_died_by, dies_now};
-ghost use Rattle.step_table.specs.World.{Turned};
+ghost use Rattle.step_table.specs.Laws.{AddsOwn, LeavesLock};
+ghost use Rattle.step_table.specs.Turn.{Turn, has_died_by, dies_now};
+ghost use Rattle.step_table.specs.World.{Turned, begin};
 ghost use Rattle.shelf.specs.Rules.{rules_of};
 
 use store_traits::{Codec, Transform};
@@ -20,28 +21,41 @@ use store_traits::{Codec, Transform};
 pub fn turns_wait_exactly<C: Codec, T: Transform<Value = C::Value>, M>()
     ensures blocked { (c : C) (s : Store C.Value M) (t : Turned C.Value T) → Turn (rules_of T.after T.weight_of (C.encoded c) (C.reads c) (C.default_of c)) s t Blocked
         → (has_died_by (begin t) ≡ false) × (dies_now (begin t) ≡ false) × (is_first t.call.at ≡ true) × IsAnother t.world.owner t.call.id × (t.world_after ≡ t.world) }
-    ensures exactly { (c : C) (s : Store C.Value M) (t : Turned C.Value T) (gave : Progress (Result ℕ UpdateError))
+    ensures exactly { (c : C) (s : Store C.Value M) (t : Turned C.Value T) (gave : Progress (Reply C.Value))
         → Turn (rules_of T.after T.weight_of (C.encoded c) (C.reads c) (C.default_of c)) s t gave
         → has_died_by (begin t) ≡ false → dies_now (begin t) ≡ false → is_first t.call.at ≡ true → IsAnother t.world.owner t.call.id → gave ≡ Blocked }
 {}
 
 /// A turn that ends with want of memory leaves folder and history as they were.
 pub fn want_of_memory_changes_nothing<C: Codec, T: Transform<Value = C::Value>, M>()
-    ensures { (c : C) (s : Store C.Value M) (t : Turned C.Value T) → Turn (rules_of T.after T.weight_of (C.encoded c) (C.reads c) (C.default_of c)) s t (Ended (Err NoMemory))
+    ensures { (c : C) (s : Store C.Value M) (t : Turned C.Value T)
+        → Turn (rules_of T.after T.weight_of (C.encoded c) (C.reads c) (C.default_of c)) s t (Ended (Failed NoMemory))
         → (IsTrue t.world.told → t.world_after.folder ≡ t.world.folder) × (t.world_after.history ≡ t.world.history) }
 {}
 
-/// A call that ends owns nothing and keeps no room, also where its node dies in that turn. Where the node died before, the
-/// lock was freed then.
+/// A call that ends owns nothing, also where its node dies in that turn. Where the node died before, the lock was freed
+/// then.
 pub fn ended_calls_own_nothing<C: Codec, T: Transform<Value = C::Value>, M>()
-    ensures { (c : C) (s : Store C.Value M) (t : Turned C.Value T) (answer : Result ℕ UpdateError)
-        → Turn (rules_of T.after T.weight_of (C.encoded c) (C.reads c) (C.default_of c)) s t (Ended answer) → has_died_by (begin t) ≡ false
-        → (t.call_after ≡ ended (begin t).call) × (t.world_after.owner ≡ Some t.call.id → ⊥) }
+    ensures { (c : C) (s : Store C.Value M) (t : Turned C.Value T) (reply : Reply C.Value)
+        → Turn (rules_of T.after T.weight_of (C.encoded c) (C.reads c) (C.default_of c)) s t (Ended reply)
+        → (t.call_after.at ≡ Gone) × (t.world_after.owner ≢ Some t.call.id) }
 {}
 
-/// A turn only adds entries at the end of the history.
+/// A turn only adds entries of its own call, at the end of the history.
 pub fn turns_only_add<C: Codec, T: Transform<Value = C::Value>, M>()
-    ensures { (c : C) (s : Store C.Value M) (t : Turned C.Value T) (gave : Progress (Result ℕ UpdateError))
+    ensures { (c : C) (s : Store C.Value M) (t : Turned C.Value T) (gave : Progress (Reply C.Value))
+        → Turn (rules_of T.after T.weight_of (C.encoded c) (C.reads c) (C.default_of c)) s t gave → AddsOwn t }
+{}
+
+/// A turn gives the lock to nobody but its own call, and takes it from no call of another node.
+pub fn turns_leave_the_lock<C: Codec, T: Transform<Value = C::Value>, M>()
+    ensures { (c : C) (s : Store C.Value M) (t : Turned C.Value T) (gave : Progress (Reply C.Value))
+        → Turn (rules_of T.after T.weight_of (C.encoded c) (C.reads c) (C.default_of c)) s t gave → LeavesLock t }
+{}
+
+/// The version word goes on to count the raises of the history.
+pub fn versions_count_raises<C: Codec, T: Transform<Value = C::Value>, M>()
+    ensures { (c : C) (s : Store C.Value M) (t : Turned C.Value T) (gave : Progress (Reply C.Value))
         → Turn (rules_of T.after T.weight_of (C.encoded c) (C.reads c) (C.default_of c)) s t gave
-        → (more : List (EntrySeen C.Value T)) × (t.world_after.history ≡ t.world.history ++ more) }
+        → t.world.version ≡ raises_of t.world.history → t.world_after.version ≡ raises_of t.world_after.history }
 {}

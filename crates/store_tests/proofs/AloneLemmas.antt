@@ -1,5 +1,5 @@
 -- An update that nobody else is beside goes on to its end.
-use Rattle.std.proofs.Common.{◌≡◌, ◌∙◌, ⊎_elim, ◌==◌, ◌&&◌, ◌<◌, nat_lt, ℕ, Bool, true, false, List, [], ◌++◌, Option, Some, None, append_assoc, append-nil, refl, sym, ap, arith, Result}
+use Rattle.std.proofs.Common.{◌≡◌, ◌≢◌, ◌∙◌, inl, ◌==◌, ◌&&◌, ◌<◌, nat_lt, ℕ, Bool, true, false, List, [], ◌++◌, Option, Some, None, append_assoc, append-nil, refl, sym, ap, arith, Result}
 use Rattle.std.specs.List.{list_any}
 use Rattle.std.proofs.lemmas.Bool.Decides.{nat_tests}
 use Rattle.std.proofs.lemmas.List.Folds.{list_any-append}
@@ -11,24 +11,26 @@ use Rattle.file_lock.specs.Owner.{IsAnother}
 use Rattle.folder_disk.specs.declared.folder.Folder as folder_trait
 use Rattle.hist_journal.specs.declared.seen.EntrySeen.{EntrySeen}
 use Rattle.hist_journal.specs.Kinds.{is_call}
-use Rattle.step_table.specs.declared.progress.Progress.{Progress}
-use Rattle.step_table.specs.declared.progress.Progress.TheVariants.{Moved, Blocked, Ended}
+use Rattle.shelf.specs.declared.store.Store.{Store}
 use Rattle.shelf.specs.AddsNode.{is_among}
 use Rattle.shelf.specs.CallOrder.{is_later}
-use Rattle.step_table.specs.Calls.{At, Call, First, is_gone}
+use Rattle.shelf.specs.Rules.{Rules}
 use Rattle.shelf.specs.ShelfSeen.{ShelfSeen}
-use Rattle.step_table.specs.World.{Turned}
 use Rattle.shelf.proofs.Bools.{never}
+use Rattle.shelf.proofs.SameCalls.{itself, same_call}
+use Rattle.step_table.specs.declared.progress.Progress.{Progress}
+use Rattle.step_table.specs.declared.progress.Progress.TheVariants.{Moved, Blocked, Ended}
+use Rattle.step_table.specs.Calls.{At, First, Update, is_gone, replied, reply_of}
+use Rattle.step_table.specs.Turn.{Turn}
+use Rattle.step_table.specs.World.{Turned}
+use Rattle.step_table.proofs.Applying.{ended_owns_nothing, turn_owner}
+use Rattle.step_table.proofs.Waiting.{turn_waits}
 use Rattle.node_core.specs.declared.origin.Origin.{Origin}
-use Rattle.node_core.specs.Ready.{rules_seen}
-use Rattle.node_core.specs.Step.{TurnFrom}
-use Rattle.node_core.specs.Views.{turned}
-use Rattle.node_core.proofs.KeepingLemmas.{answered_is_gone}
+use Rattle.node_core.specs.Step.{MayStep}
+use Rattle.node_core.proofs.MovingLemmas.{moved_runs}
 use Rattle.node_core.proofs.NewCalls.{new_is_ready}
 use Rattle.node_core.proofs.SparingLemmas.{turn_adds_own}
 use Rattle.store_tests.specs.Alone.{IsAlone, IsNew, TellsOf}
-use Rattle.node_core.proofs.GoingLemmas.{Owned, Owns, Stepped, owner_then, stepped_goes_on, waiting}
-use Rattle.node_core.proofs.MovingLemmas.{moved_runs}
 
 -- an earlier call of a client is another one
 not_own : (call next : CallId) → call.number < next.number → (is_call next call && true) ≡ false
@@ -51,69 +53,77 @@ module _ {V T : Type 0} where
         numbers = rw all (told.unseen (is_later next) (λ kind. not_later call next later));
       }
 
+-- the node of a call is one of a store that stays
+pub still_among : {V M : Type 0} (call now : CallId) (s new : Store V M) → now ≡ call → new ≡ s → is_among call.node s.nodes ≡ true → is_among now.node new.nodes ≡ true
+still_among call now s new same store node = rw (same, store) node
+
 module _ {C F V T : Type 0} (c : codec_trait.Ghosts C V) (t : transform_trait.Ghosts T V) (f : folder_trait.Ghosts F) where
   -- a new call may begin where nobody owns the lock
-  pub new_is_alone : (call : CallId) (edit : T) (s : ShelfSeen C F V T) → IsNew call s.list → s.owner ≡ None → is_among call.node s.store.nodes ≡ true → IsAlone c t f (record { call = call; since = None }) false (First edit) s
+  pub new_is_alone : (call : CallId) (edit : T) (s : ShelfSeen C F V T) → IsNew call s.list → s.owner ≡ None → is_among call.node s.store.nodes ≡ true → IsAlone c t f (record { call = call; since = None }) false (First (Update edit)) s
   new_is_alone call edit s is_new free node =
       record {
-        goes_on = record { node = node; ready = λ running. new_is_ready c t f call edit s is_new.none is_new.numbers; readiness = λ no. never no };
+        goes_on = refl;
+        node = node;
+        ready = new_is_ready c t f call (Update edit) s is_new.none is_new.numbers;
+        readiness = λ no. never no;
         owner = λ other owns. absurd (let no : ◌≡◌ {A = Option CallId} None (Some other) = sym free ∙ owns in cc);
       }
 
-  module _ (origin : Origin) (initialised : Bool) (at : At V T) (old : ShelfSeen C F V T) (gave : Progress (Result ℕ UpdateError)) (origin_after : Origin) (initialised_after : Bool) (at_after : At V T) (new : ShelfSeen C F V T)
-      (did : Stepped c t f origin initialised at old gave origin_after initialised_after at_after new) (alone : IsAlone c t f origin initialised at old) where
-    abbrev this : Turned V T
-    this = turned f origin at old origin_after at_after new
+  -- nothing happened since its last turn
+  pub may_step : (origin : Origin) (initialised : Bool) (at : At V T) (s : ShelfSeen C F V T) → IsAlone c t f origin initialised at s → MayStep c t f origin initialised at s
+  may_step origin initialised at s alone =
+      record {
+        last = s;
+        ready = alone.ready;
+        readiness = alone.readiness;
+        between =
+            record { more = []; grew = sym (append-nil s.list); others = refl; numbers = refl; told = refl; held = λ holds. inl (record { owner = refl; scratch = λ told. refl; outer = refl }) };
+        codec = refl;
+        store = refl;
+        kept = λ holds. inl (record { entries = refl; folder = refl });
+      }
 
-    abbrev Mine : CallId → Type 0
-    Mine call = Owns c t f origin initialised at old gave origin_after initialised_after at_after new did alone.goes_on call
+module _ {V T M : Type 0} (r : Rules V T) (s : Store V M) (t : Turned V T) (gave : Progress (Result ℕ UpdateError)) (turn : Turn r s t (replied gave)) (alone : (call : CallId) → t.world.owner ≡ Some call → call ≡ t.call.id) where
+  -- nobody else owns the lock then
+  pub stays_alone : (call : CallId) → t.world_after.owner ≡ Some call → call ≡ t.call.id
+  stays_alone call owns = by_call (is_call call t.call.id) refl
+    where
+      by_call : (b : Bool) → is_call call t.call.id ≡ b → call ≡ t.call.id
+      by_call true is = same_call call t.call.id is
+      by_call false is =
+          let unlike : call ≢ t.call.id = λ same. never (sym is ∙ (rw same (itself t.call.id))) in
+          alone call (turn_owner r s t (replied gave) turn call owns unlike)
 
-    abbrev Was : CallId → Type 0
-    Was call = Owned c t f origin initialised at old gave origin_after initialised_after at_after new did alone.goes_on call
+  -- it is never blocked
+  pub never_waits : gave ≡ Blocked → ⊥
+  never_waits is = let waiting : Turn r s t Blocked = rw is at turn in by_owner t.world.owner refl (turn_waits r s t waiting).3
+    where
+      by_owner : (owner : Option CallId) → t.world.owner ≡ owner → IsAnother owner t.call.id → ⊥
+      by_owner None owned another = another
+      by_owner (Some call) owned another = another (alone call owned)
 
-    mine : (call : CallId) → new.owner ≡ Some call → Mine call
-    mine call owns =
-        ⊎_elim (λ (it : Mine call). it) (λ (it : Was call). absurd (it.unlike (alone.owner call it.was)))
-        (owner_then c t f origin initialised at old gave origin_after initialised_after at_after new did alone.goes_on call owns)
+  -- a call that moved has not ended
+  pub moves : gave ≡ Moved → is_gone t.call_after.at ≡ false
+  moves is = let moved : Turn r s t Moved = rw is at turn in moved_runs r s t moved
 
-    pub still_alone : IsAlone c t f origin_after initialised_after at_after new
-    still_alone = record { goes_on = stepped_goes_on c t f origin initialised at old gave origin_after initialised_after at_after new did alone.goes_on; owner = λ call owns. (mine call owns).is }
+  -- once it has its answer, nobody owns the lock
+  pub frees : (answer : Result ℕ UpdateError) → gave ≡ Ended answer → t.world_after.owner ≡ None
+  frees answer is = by_owner t.world_after.owner refl
+    where
+      by_owner : (owner : Option CallId) → t.world_after.owner ≡ owner → t.world_after.owner ≡ None
+      by_owner None owned = owned
+      by_owner (Some call) owned =
+          let ended : Turn r s t (Ended (reply_of answer)) = rw is at turn in
+          absurd (ended_owns_nothing r s t (reply_of answer) ended (owned ∙ ap (λ (c : CallId). Some c) (stays_alone call owned)))
 
-    -- it is never blocked
-    pub never_waits : gave ≡ Blocked → ⊥
-    never_waits is =
-        let turn : TurnFrom c t f origin at old Blocked origin_after at_after new = rw is at did.turn in
-        by_owner old.owner refl (waiting c t f origin initialised at old gave origin_after initialised_after at_after new did alone.goes_on turn)
-      where
-        by_owner : (owner : Option CallId) → old.owner ≡ owner → IsAnother owner origin.call → ⊥
-        by_owner None is another = another
-        by_owner (Some call) is another = another (alone.owner call is)
-
-    -- a call that moved has not ended
-    pub moves : gave ≡ Moved → is_gone at_after ≡ false
-    moves is = let turn : TurnFrom c t f origin at old Moved origin_after at_after new = rw is at did.turn in moved_runs (rules_seen c t f old) old.store this turn
-
-    -- once it has its answer, nobody owns the lock
-    pub frees : (answer : Result ℕ UpdateError) → gave ≡ Ended answer → new.owner ≡ None
-    frees answer is = by_owner new.owner refl
-      where
-        gone : is_gone at_after ≡ true
-        gone =
-            let turn : TurnFrom c t f origin at old (Ended answer) origin_after at_after new = rw is at did.turn in
-            ap (λ (call : Call V T). is_gone call.at) (answered_is_gone (rules_seen c t f old) old.store this answer turn)
-
-        by_owner : (owner : Option CallId) → new.owner ≡ owner → new.owner ≡ None
-        by_owner None is = is
-        by_owner (Some call) is = never (sym (mine call is).running ∙ gone)
-
-    -- nothing but of this call is told
-    pub tells_more : (call : CallId) (list : List (EntrySeen V T)) → origin.call ≡ call → TellsOf call list old.list → TellsOf call list new.list
-    tells_more call list same told =
-        let new_entries = turn_adds_own (rules_seen c t f old) old.store this gave did.turn in
-        record {
-          more = told.more ++ new_entries.more;
-          added = new_entries.added ∙ (ap (λ (xs : List (EntrySeen V T)). xs ++ new_entries.more) told.added ∙ append_assoc list told.more new_entries.more);
-          unseen = λ sees none.
-              (let later : list_any sees new_entries.more ≡ false = new_entries.unseen sees (rw same none) in
-              list_any-append sees told.more new_entries.more ∙ rw (told.unseen sees none, later) refl);
-        }
+  -- nothing but of this call is told
+  pub tells_more : (call : CallId) (list : List (EntrySeen V T)) → t.call.id ≡ call → TellsOf call list t.world.history → TellsOf call list t.world_after.history
+  tells_more call list same told =
+      let own = turn_adds_own r s t (replied gave) turn in
+      record {
+        more = told.more ++ own.more;
+        added = own.added ∙ (ap (λ (xs : List (EntrySeen V T)). xs ++ own.more) told.added ∙ append_assoc list told.more own.more);
+        unseen = λ sees none.
+            (let later : list_any sees own.more ≡ false = own.unseen sees (rw same none) in
+            list_any-append sees told.more own.more ∙ rw (told.unseen sees none, later) refl);
+      }

@@ -1,4 +1,2 @@
 pub mod AloneLemmas
-pub mod InTurnLemmas
-pub mod RoundLemmas
 pub mod UpdateLemmas

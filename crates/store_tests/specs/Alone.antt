@@ -1,5 +1,5 @@
 -- One update at a time.
-use Rattle.std.specs.Prelude.{◌≡◌, Bool, false, List, ◌++◌, Some}
+use Rattle.std.specs.Prelude.{◌≡◌, Bool, true, false, List, ◌++◌, Some}
 use Rattle.std.specs.List.{list_any}
 use Rattle.store_traits.specs.declared.codec.Codec as codec_trait
 use Rattle.store_traits.specs.declared.ids.CallId.{CallId}
@@ -7,12 +7,14 @@ use Rattle.store_traits.specs.declared.transform.Transform as transform_trait
 use Rattle.folder_disk.specs.declared.folder.Folder as folder_trait
 use Rattle.hist_journal.specs.declared.seen.EntrySeen.{EntrySeen}
 use Rattle.hist_journal.specs.declared.seen.KindSeen.{KindSeen}
+use Rattle.hist_journal.specs.Nodes.{is_ready}
+use Rattle.shelf.specs.AddsNode.{is_among}
 use Rattle.shelf.specs.CallOrder.{is_later}
-use Rattle.step_table.specs.Calls.{At}
 use Rattle.shelf.specs.Meanwhile.{NoneOf}
 use Rattle.shelf.specs.ShelfSeen.{ShelfSeen}
+use Rattle.step_table.specs.Calls.{At, is_first, is_gone}
 use Rattle.node_core.specs.declared.origin.Origin.{Origin}
-use Rattle.node_core.specs.GoesOn.{GoesOn}
+use Rattle.node_core.specs.Ready.{Ready}
 
 module _ {V T : Type 0} where
   -- nothing of the call was told, nor of a later one of its client
@@ -26,7 +28,10 @@ module _ {V T : Type 0} where
     pub added : now ≡ list ++ more
     pub unseen : (sees : EntrySeen V T → Bool) → ((kind : KindSeen V T) → sees (record { who = call; kind = kind }) ≡ false) → list_any sees more ≡ false
 
--- a call may go on, and nobody else owns the lock
+-- a call goes on that is ready for its next turn, and nobody else owns the lock
 pub record IsAlone {C F V T : Type 0} (c : codec_trait.Ghosts C V) (t : transform_trait.Ghosts T V) (f : folder_trait.Ghosts F) (origin : Origin) (initialised : Bool) (at : At V T) (s : ShelfSeen C F V T) : Type 0 where
-  pub goes_on : GoesOn c t f origin initialised at s
+  pub goes_on : is_gone at ≡ false
+  pub node : is_among origin.call.node s.store.nodes ≡ true
+  pub ready : Ready c t f origin at s
+  pub readiness : initialised ≡ true → is_first at ≡ true → is_ready origin.call.node s.list ≡ true
   pub owner : (call : CallId) → s.owner ≡ Some call → call ≡ origin.call

@@ -1,8 +1,7 @@
 //! One update at a time over a shelf, to its end.
-ghost use Rattle.std.specs.Prelude.{◌≡◌, ◌<◌, None, false, true};
+ghost use Rattle.std.specs.Prelude.{◌≡◌, ◌<◌, None, true};
 ghost use Rattle.hist_journal.specs.Folds.{raises_of};
 ghost use Rattle.shelf.specs.AddsNode.{is_among};
-ghost use Rattle.step_table.specs.Calls.{is_gone};
 ghost use Rattle.shelf.specs.ShelfSeen.{shelf_seen};
 ghost use Rattle.node_core.specs.Views.{state_seen};
 ghost use Rattle.store_tests.specs.Alone.{IsAlone, IsNew, TellsOf};
@@ -23,7 +22,6 @@ fn go_on<P: Parts, W: Word>(
     requires word { W.ready (W.made word.old) }
     requires number { W.number word.old ≡ raises_of (shelf_seen shelf.old).list }
     requires alone { IsAlone P.C.Codec P.T.Transform P.F.Folder update.old.origin update.old.initialised (state_seen update.old.state) (shelf_seen shelf.old) }
-    requires running { is_gone (state_seen update.old.state) ≡ false }
     ensures free { (shelf_seen shelf.new).owner ≡ None }
     ensures adds { TellsOf update.old.origin.call (shelf_seen shelf.old).list (shelf_seen shelf.new).list }
     ensures store { (shelf_seen shelf.new).store ≡ (shelf_seen shelf.old).store }

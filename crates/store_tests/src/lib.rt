@@ -1,13 +1,10 @@
 //! What spans several crates of the store. An update is taken turn by turn here, which shows that what each turn asks for
 //! can be met, for every parts of a store; and the tests do so at the types of the program, over a folder in memory. It
-//! stands on all that it tests. All but the type that its definitions speak of is read as tests are, so that it is proved once.
+//! stands on all that it tests, and all of it is read as tests are, so that it is proved once.
 #![tactic(auto)]
 
 #[cfg(test)]
 mod alone;
-mod going;
-#[cfg(test)]
-mod in_turn;
 #[cfg(test)]
 mod sessions;
 #[cfg(test)]

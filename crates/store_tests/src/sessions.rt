@@ -1,7 +1,6 @@
-//! Sessions of two nodes with settings over a folder in memory, and what is seen of them.
-ghost use Rattle.std.specs.Prelude.{◌≡◌, IfSome, IsTrue, true};
+//! Sessions of a node with settings over a folder in memory, and what is seen of them.
+ghost use Rattle.std.specs.Prelude.{IfSome, IsTrue};
 ghost use Rattle.hist_journal.specs.View.{base_seen};
-ghost use Rattle.shelf.specs.AddsNode.{is_among};
 ghost use Rattle.shelf.specs.Base.{ReadsAs};
 ghost use Rattle.shelf.specs.ShelfSeen.{shelf_seen};
 ghost use Rattle.store_tests.specs.SingleUpdate.{IsFresh};
@@ -19,27 +18,21 @@ use store_traits::{CallId, ClientId, Codec, Decoded, FileBytes, NodeId};
 
 pub type Prefs = PrefsParts<MemFolder>;
 
-/// The calls of two clients, each on a node of its own.
+/// The first call of a client.
 pub const A: CallId = CallId {
     node: NodeId(0),
     client: ClientId(0),
     number: 1,
 };
 
-/// The call of the first client behind that.
+/// The call behind that.
 pub const A_NEXT: CallId = CallId {
     node: NodeId(0),
     client: ClientId(0),
     number: 2,
 };
 
-pub const B: CallId = CallId {
-    node: NodeId(1),
-    client: ClientId(1),
-    number: 1,
-};
-
-/// A session of two nodes, over a folder whose main reads as this base.
+/// A session of one node, over a folder whose main reads as this base.
 fn session<P: Parts>(
     alloc: Global,
     codec: P::C,
@@ -47,7 +40,7 @@ fn session<P: Parts>(
     base: Base<ValueOf<P>>,
 ) -> Option<Shelf<P>>
     requires base { IsTrue P.F.told → ReadsAs (P.C.reads codec) (P.C.default_of codec) 1048576 (P.F.contents folder).main (base_seen base) }
-    ensures { IfSome result (λ shelf. IsFresh A (shelf_seen shelf) × (is_among B.node (shelf_seen shelf).store.nodes ≡ true)) }
+    ensures { IfSome result (λ shelf. IsFresh A (shelf_seen shelf)) }
 {
     let bounds = Bounds {
         entries: 100,
@@ -62,15 +55,12 @@ fn session<P: Parts>(
     let Ok(()) = shelf.add_node(alloc, A.node) else {
         return None;
     };
-    let Ok(()) = shelf.add_node(alloc, B.node) else {
-        return None;
-    };
     Some(shelf)
 }
 
 /// A session without a file, in which these calls of the folder fail.
 pub fn without_file(alloc: Global, failing: Vec<Planned>) -> Option<Shelf<Prefs>>
-    ensures { IfSome result (λ shelf. IsFresh A (shelf_seen shelf) × (is_among B.node (shelf_seen shelf).store.nodes ≡ true)) }
+    ensures { IfSome result (λ shelf. IsFresh A (shelf_seen shelf)) }
 {
     let Ok(folder) = MemFolder::new(alloc, MainRead::Absent, failing) else {
         return None;
@@ -86,7 +76,7 @@ pub fn without_file(alloc: Global, failing: Vec<Planned>) -> Option<Shelf<Prefs>
 
 /// A session over a file of these bytes, which are a map of settings.
 pub fn with_file(alloc: Global, bytes: Vec<u8>) -> Option<Shelf<Prefs>>
-    ensures { IfSome result (λ shelf. IsFresh A (shelf_seen shelf) × (is_among B.node (shelf_seen shelf).store.nodes ≡ true)) }
+    ensures { IfSome result (λ shelf. IsFresh A (shelf_seen shelf)) }
 {
     if bytes.len() > 1_048_576 {
         return None;
@@ -138,8 +128,6 @@ fn name_of(call: CallId) -> &'static str {
         "a1"
     } else if call == A_NEXT {
         "a2"
-    } else if call == B {
-        "b1"
     } else {
         "nobody"
     }

@@ -1,12 +1,9 @@
 //! Updates step by step, as the calls of a script, at the types of the program and over a folder in memory.
-ghost use Rattle.std.specs.Prelude.{◌≡◌, true};
-ghost use Rattle.shelf.specs.AddsNode.{is_among};
 ghost use Rattle.shelf.specs.ShelfSeen.{shelf_seen};
 ghost use Rattle.store_tests.specs.SingleUpdate.{IsFresh};
 
 use crate::alone::{one_after_another, to_its_end};
-use crate::in_turn::{begin_both, in_rounds, step_of_other, steps_of};
-use crate::sessions::{A, A_NEXT, B, Prefs, add, main_is, set, tells, with_file, without_file};
+use crate::sessions::{A, A_NEXT, Prefs, add, main_is, set, tells, with_file, without_file};
 use folder_disk::{FolderCall, Planned};
 use prefs_edit::Edit;
 use shelf::{Parts, Shelf};
@@ -42,35 +39,6 @@ fn are_answered<P: Parts>(
     let (edit, next) = edits;
     let told = one_after_another(alloc, shelf, &mut word, (A, edit), (A_NEXT, next));
     told.0 == first && told.1 == second
-}
-
-/// One client has the lock five steps long, and the other waits. Then they go on in rounds.
-#[tactic(auto, unfolding(hist_journal::specs::Folds::raises_of))]
-fn take_turns<P: Parts>(alloc: Global, shelf: &mut Shelf<P>, one: P::T, other: P::T) -> bool
-    requires fresh { IsFresh A (shelf_seen shelf.old) }
-    requires node { is_among B.node (shelf_seen shelf.old).store.nodes ≡ true }
-{
-    let mut word = PlainWord::new();
-    let (mut a, mut b) = begin_both(shelf, (A, one), (B, other));
-    let went = steps_of(alloc, shelf, &mut word, &mut a, &b, 5);
-    let goes_too = step_of_other(alloc, shelf, &mut word, &a, &mut b);
-    in_rounds(alloc, shelf, &mut word, &mut a, &mut b);
-    went == 5 && !goes_too && a.answer() == Some(Ok(1)) && b.answer() == Some(Ok(2))
-}
-
-fn waits(alloc: Global) -> Option<bool> {
-    let one = add(alloc, "x", 1)?;
-    let other = add(alloc, "x", 1)?;
-    let mut shelf = without_file(alloc, Vec::new(alloc))?;
-    let went = take_turns::<Prefs>(alloc, &mut shelf, one, other);
-    let told = "a1 inited\na1 raise\na1 edit\na1 synced\nb1 inited\nb1 raise\nb1 edit\nb1 synced\n";
-    let is_told = went && tells(alloc, &shelf, told);
-    Some(is_told && main_is(shelf, &[0x0a, 7, 0x0a, 1, b'x', 0x12, 2, 0x18, 2]))
-}
-
-#[test]
-fn the_second_of_two_nodes_waits(rt: HostRuntime) {
-    assert_eq!(rt; waits(rt.alloc()), Some(true));
 }
 
 fn is_kept(alloc: Global) -> Option<bool> {

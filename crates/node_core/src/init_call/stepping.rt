@@ -3,9 +3,10 @@ ghost use Rattle.hist_journal.specs.Folds.{raises_of};
 ghost use Rattle.hist_journal.specs.Nodes.{is_dead};
 ghost use Rattle.shelf.specs.AddsNode.{is_among};
 ghost use Rattle.step_table.specs.Calls as at;
+ghost use Rattle.step_table.specs.Calls.{Ask};
 ghost use Rattle.shelf.specs.ShelfSeen.{shelf_seen};
 ghost use Rattle.node_core.specs.Initialising.{IsInitialising};
-ghost use Rattle.node_core.specs.Steps.{InitRow, is_finished, is_last};
+ghost use Rattle.node_core.specs.Steps.{InitSteps, is_finished, is_last};
 ghost use Rattle.node_core.specs.Views.{init_seen};
 
 use super::{InitCall, Initialised};
@@ -20,9 +21,7 @@ impl<P: Parts> InitCall<P> {
         requires node { is_among origin.call.node (shelf_seen shelf.old).store.nodes ≡ true }
         requires ready { IsInitialising P.C.Codec P.T.Transform P.F.Folder origin self (shelf_seen shelf.old) }
         requires lives { is_dead origin.call.node (shelf_seen shelf.old).list ≡ false }
-        ensures row { (edit : P.T) → InitRow P.C.Codec P.T.Transform P.F.Folder origin edit (init_seen edit self) (shelf_seen shelf.old) result (shelf_seen shelf.new) }
-        ensures store { (shelf_seen shelf.new).store ≡ (shelf_seen shelf.old).store }
-        ensures codec { shelf.new.codec ≡ shelf.old.codec }
+        ensures steps { (ask : Ask P.T) → InitSteps P.C.Codec P.T.Transform P.F.Folder origin ask (init_seen ask self) (shelf_seen shelf.old) result (shelf_seen shelf.new) }
         ensures finished { is_finished result ≡ is_last self }
         ensures raises { raises_of (shelf_seen shelf.new).list ≡ raises_of (shelf_seen shelf.old).list }
     {
@@ -46,9 +45,7 @@ fn read_first<P: Parts>(origin: Origin, alloc: Global, shelf: &mut Shelf<P>) -> 
     requires ready { IsInitialising {P = P} P.C.Codec P.T.Transform P.F.Folder origin InitCall.Read (shelf_seen shelf.old) }
     requires lives { is_dead origin.call.node (shelf_seen shelf.old).list ≡ false }
     ensures finished { is_finished result ≡ false }
-    ensures row { (edit : P.T) → InitRow P.C.Codec P.T.Transform P.F.Folder origin edit (at.ReadingFirst edit) (shelf_seen shelf.old) result (shelf_seen shelf.new) }
-    ensures store { (shelf_seen shelf.new).store ≡ (shelf_seen shelf.old).store }
-    ensures codec { shelf.new.codec ≡ shelf.old.codec }
+    ensures steps { (ask : Ask P.T) → InitSteps P.C.Codec P.T.Transform P.F.Folder origin ask (at.Reading at.Initialise ask) (shelf_seen shelf.old) result (shelf_seen shelf.new) }
     ensures raises { raises_of (shelf_seen shelf.new).list ≡ raises_of (shelf_seen shelf.old).list }
 {
     match read_held(origin, alloc, shelf) {
@@ -62,9 +59,7 @@ fn finish<P: Parts>(origin: Origin, shelf: &mut Shelf<P>) -> Initialised<P>
     requires ready { IsInitialising {P = P} P.C.Codec P.T.Transform P.F.Folder origin InitCall.Finish (shelf_seen shelf.old) }
     requires lives { is_dead origin.call.node (shelf_seen shelf.old).list ≡ false }
     ensures finished { is_finished result ≡ true }
-    ensures row { (edit : P.T) → InitRow P.C.Codec P.T.Transform P.F.Folder origin edit (at.Finishing edit) (shelf_seen shelf.old) result (shelf_seen shelf.new) }
-    ensures store { (shelf_seen shelf.new).store ≡ (shelf_seen shelf.old).store }
-    ensures codec { shelf.new.codec ≡ shelf.old.codec }
+    ensures steps { (ask : Ask P.T) → InitSteps P.C.Codec P.T.Transform P.F.Folder origin ask (at.Finishing ask) (shelf_seen shelf.old) result (shelf_seen shelf.new) }
     ensures raises { raises_of (shelf_seen shelf.new).list ≡ raises_of (shelf_seen shelf.old).list }
 {
     shelf.finish_init(origin.call);

@@ -1,5 +1,5 @@
 ghost use Rattle.std.specs.Prelude.{◌≡◌, true, if◌then◌else◌};
-ghost use Rattle.step_table.specs.Calls.{step_at};
+ghost use Rattle.step_table.specs.Calls.{Ask, step_at};
 ghost use Rattle.node_core.specs.Views.{init_seen, state_seen, write_seen};
 
 use super::{State, UpdateCall};
@@ -40,7 +40,7 @@ fn first_step(ready: bool) -> Step
 
 impl<P: Parts> InitCall<P> {
     fn at_step(&self) -> Step
-        ensures { (edit : P.T) → result ≡ step_at true (init_seen edit self.now) }
+        ensures { (ask : Ask P.T) → result ≡ step_at true (init_seen ask self.now) }
     {
         match self {
             InitCall::Read => Step::I2,

@@ -4,13 +4,14 @@ ghost use Rattle.hist_journal.specs.Nodes.{is_ready};
 ghost use Rattle.hist_journal.specs.Quiet.{pending};
 ghost use Rattle.store_traits.specs.declared.ids.CallId.{CallId};
 ghost use Rattle.shelf.specs.AddsNode.{is_among};
-ghost use Rattle.step_table.specs.Calls.{First, is_first, is_gone};
+ghost use Rattle.step_table.specs.Calls.{First, Update, is_first, is_gone};
 ghost use Rattle.shelf.specs.Kept.{KeptMain};
 ghost use Rattle.shelf.specs.ShelfSeen.{shelf_seen};
 ghost use Rattle.node_core.specs.Own.{IsFor};
 ghost use Rattle.node_core.specs.Phases.{is_finishing};
 ghost use Rattle.node_core.specs.Ready.{Ready, rules_seen};
-ghost use Rattle.node_core.specs.Step.{MayStep, ShowsAnswer, SparesRoom, StaysIfBlocked, StepsFall, TurnFrom};
+ghost use Rattle.node_core.specs.Step.{MayStep, ShowsAnswer, SparesRoom, StepsFall, TurnFrom};
+ghost use Rattle.node_core.specs.Steps.{StaysIfBlocked};
 ghost use Rattle.node_core.specs.Views.{state_seen};
 
 use super::{State, UpdateCall};
@@ -23,7 +24,7 @@ use store_traits::{CallId, UpdateError, Word};
 impl<P: Parts> UpdateCall<P> {
     /// An update that has not begun.
     pub fn new(call: CallId, edit: P::T) -> UpdateCall<P>
-        ensures state { state_seen result.state ≡ First edit }
+        ensures state { state_seen result.state ≡ First (Update edit) }
         ensures origin { result.origin ≡ record { call = call; since = None } }
         ensures initialised { result.initialised ≡ false }
     {
@@ -71,6 +72,7 @@ impl<P: Parts> UpdateCall<P> {
     {
         // A first turn is told as `U1`: the shelf knows whether the node is initialised by then, the call does not.
         if let Some(at) = shelf.begin(self.origin.call, self.step_where(true), self.origin.since) {
+            shelf.free(self.origin.call);
             self.state = State::Gone;
             return Progress::Ended(Err(UpdateError::Died { at }));
         }

@@ -7,8 +7,7 @@ ghost use Rattle.step_table.specs.Calls.{is_gone};
 ghost use Rattle.shelf.specs.ShelfSeen.{shelf_seen};
 ghost use Rattle.node_core.specs.Phases.{is_finishing};
 ghost use Rattle.node_core.specs.Ready.{Ready};
-ghost use Rattle.node_core.specs.Step.{StaysIfBlocked};
-ghost use Rattle.node_core.specs.Steps.{RowFrom, StepEquips, is_last};
+ghost use Rattle.node_core.specs.Steps.{Steps, is_last};
 ghost use Rattle.node_core.specs.Views.{init_seen, state_seen, write_seen};
 
 use super::{State, UpdateCall};
@@ -39,11 +38,7 @@ impl<P: Parts> UpdateCall<P> {
         requires node { is_among self.old.origin.call.node (shelf_seen shelf.old).store.nodes ≡ true }
         requires ready { Ready P.C.Codec P.T.Transform P.F.Folder self.old.origin (state_seen self.old.state) (shelf_seen shelf.old) }
         requires lives { is_dead self.old.origin.call.node (shelf_seen shelf.old).list ≡ false }
-        ensures row { RowFrom P.C.Codec P.T.Transform P.F.Folder self.old.origin (state_seen self.old.state) (shelf_seen shelf.old) result (state_seen self.new.state) (shelf_seen shelf.new) }
-        ensures store { (shelf_seen shelf.new).store ≡ (shelf_seen shelf.old).store }
-        ensures codec { shelf.new.codec ≡ shelf.old.codec }
-        ensures waits { StaysIfBlocked result (shelf_seen shelf.old) (shelf_seen shelf.new) }
-        ensures equips { StepEquips P.C.Codec P.T.Transform P.F.Folder result (state_seen self.new.state) (shelf_seen shelf.new) }
+        ensures steps { Steps P.C.Codec P.T.Transform P.F.Folder self.old.origin (state_seen self.old.state) (shelf_seen shelf.old) result (state_seen self.new.state) (shelf_seen shelf.new) }
         ensures number { W.number word.new ≡ raises_of (shelf_seen shelf.new).list }
         ensures made { W.made word.new ≡ W.made word.old }
         ensures origin { self.new.origin ≡ self.old.origin }
@@ -72,11 +67,7 @@ impl<P: Parts> State<P> {
         requires node { is_among origin.call.node (shelf_seen shelf.old).store.nodes ≡ true }
         requires ready { Ready P.C.Codec P.T.Transform P.F.Folder origin (state_seen self) (shelf_seen shelf.old) }
         requires lives { is_dead origin.call.node (shelf_seen shelf.old).list ≡ false }
-        ensures row { RowFrom P.C.Codec P.T.Transform P.F.Folder origin (state_seen self) (shelf_seen shelf.old) result.1 (state_seen result.0) (shelf_seen shelf.new) }
-        ensures store { (shelf_seen shelf.new).store ≡ (shelf_seen shelf.old).store }
-        ensures codec { shelf.new.codec ≡ shelf.old.codec }
-        ensures waits { StaysIfBlocked result.1 (shelf_seen shelf.old) (shelf_seen shelf.new) }
-        ensures equips { StepEquips P.C.Codec P.T.Transform P.F.Folder result.1 (state_seen result.0) (shelf_seen shelf.new) }
+        ensures steps { Steps P.C.Codec P.T.Transform P.F.Folder origin (state_seen self) (shelf_seen shelf.old) result.1 (state_seen result.0) (shelf_seen shelf.new) }
         ensures number { W.number word.new ≡ raises_of (shelf_seen shelf.new).list }
         ensures made { W.made word.new ≡ W.made word.old }
     {
@@ -109,11 +100,8 @@ fn take<P: Parts>(
     shelf: &mut Shelf<P>,
     edit: P::T,
 ) -> (State<P>, Progress<Result<u64, UpdateError>>)
-    requires ready { Ready P.C.Codec P.T.Transform P.F.Folder origin (at.First edit) (shelf_seen shelf.old) }
-    ensures row { RowFrom P.C.Codec P.T.Transform P.F.Folder origin (at.First edit) (shelf_seen shelf.old) result.1 (state_seen result.0) (shelf_seen shelf.new) }
-    ensures store { (shelf_seen shelf.new).store ≡ (shelf_seen shelf.old).store }
-    ensures codec { shelf.new.codec ≡ shelf.old.codec }
-    ensures waits { StaysIfBlocked result.1 (shelf_seen shelf.old) (shelf_seen shelf.new) }
+    requires ready { Ready P.C.Codec P.T.Transform P.F.Folder origin (at.First (at.Update edit)) (shelf_seen shelf.old) }
+    ensures steps { Steps P.C.Codec P.T.Transform P.F.Folder origin (at.First (at.Update edit)) (shelf_seen shelf.old) result.1 (state_seen result.0) (shelf_seen shelf.new) }
     ensures raises { raises_of (shelf_seen shelf.new).list ≡ raises_of (shelf_seen shelf.old).list }
 {
     match shelf.take(alloc, origin.call, Want::Update) {
@@ -144,12 +132,9 @@ fn initialise<P: Parts>(
     init: InitCall<P>,
 ) -> (State<P>, Progress<Result<u64, UpdateError>>)
     requires node { is_among origin.call.node (shelf_seen shelf.old).store.nodes ≡ true }
-    requires ready { Ready P.C.Codec P.T.Transform P.F.Folder origin (init_seen edit init) (shelf_seen shelf.old) }
+    requires ready { Ready P.C.Codec P.T.Transform P.F.Folder origin (init_seen (at.Update edit) init) (shelf_seen shelf.old) }
     requires lives { is_dead origin.call.node (shelf_seen shelf.old).list ≡ false }
-    ensures row { RowFrom P.C.Codec P.T.Transform P.F.Folder origin (init_seen edit init) (shelf_seen shelf.old) result.1 (state_seen result.0) (shelf_seen shelf.new) }
-    ensures store { (shelf_seen shelf.new).store ≡ (shelf_seen shelf.old).store }
-    ensures codec { shelf.new.codec ≡ shelf.old.codec }
-    ensures waits { StaysIfBlocked result.1 (shelf_seen shelf.old) (shelf_seen shelf.new) }
+    ensures steps { Steps P.C.Codec P.T.Transform P.F.Folder origin (init_seen (at.Update edit) init) (shelf_seen shelf.old) result.1 (state_seen result.0) (shelf_seen shelf.new) }
     ensures raises { raises_of (shelf_seen shelf.new).list ≡ raises_of (shelf_seen shelf.old).list }
 {
     match init.step(origin, alloc, shelf) {
@@ -166,13 +151,9 @@ fn read<P: Parts>(
     shelf: &mut Shelf<P>,
     edit: P::T,
 ) -> (State<P>, Progress<Result<u64, UpdateError>>)
-    requires ready { Ready P.C.Codec P.T.Transform P.F.Folder origin (at.Reading edit) (shelf_seen shelf.old) }
+    requires ready { Ready P.C.Codec P.T.Transform P.F.Folder origin (at.Reading at.Serve (at.Update edit)) (shelf_seen shelf.old) }
     requires lives { is_dead origin.call.node (shelf_seen shelf.old).list ≡ false }
-    ensures row { RowFrom P.C.Codec P.T.Transform P.F.Folder origin (at.Reading edit) (shelf_seen shelf.old) result.1 (state_seen result.0) (shelf_seen shelf.new) }
-    ensures store { (shelf_seen shelf.new).store ≡ (shelf_seen shelf.old).store }
-    ensures codec { shelf.new.codec ≡ shelf.old.codec }
-    ensures waits { StaysIfBlocked result.1 (shelf_seen shelf.old) (shelf_seen shelf.new) }
-    ensures equips { StepEquips P.C.Codec P.T.Transform P.F.Folder result.1 (state_seen result.0) (shelf_seen shelf.new) }
+    ensures steps { Steps P.C.Codec P.T.Transform P.F.Folder origin (at.Reading at.Serve (at.Update edit)) (shelf_seen shelf.old) result.1 (state_seen result.0) (shelf_seen shelf.new) }
     ensures raises { raises_of (shelf_seen shelf.new).list ≡ raises_of (shelf_seen shelf.old).list }
 {
     let given = match read_held(origin, alloc, shelf) {
@@ -204,11 +185,7 @@ fn write_on<P: Parts, W: Word>(
     requires number { W.number word.old ≡ raises_of (shelf_seen shelf.old).list }
     requires ready { Ready P.C.Codec P.T.Transform P.F.Folder origin (write_seen write) (shelf_seen shelf.old) }
     requires lives { is_dead origin.call.node (shelf_seen shelf.old).list ≡ false }
-    ensures row { RowFrom P.C.Codec P.T.Transform P.F.Folder origin (write_seen write) (shelf_seen shelf.old) result.1 (state_seen result.0) (shelf_seen shelf.new) }
-    ensures store { (shelf_seen shelf.new).store ≡ (shelf_seen shelf.old).store }
-    ensures codec { shelf.new.codec ≡ shelf.old.codec }
-    ensures waits { StaysIfBlocked result.1 (shelf_seen shelf.old) (shelf_seen shelf.new) }
-    ensures equips { StepEquips P.C.Codec P.T.Transform P.F.Folder result.1 (state_seen result.0) (shelf_seen shelf.new) }
+    ensures steps { Steps P.C.Codec P.T.Transform P.F.Folder origin (write_seen write) (shelf_seen shelf.old) result.1 (state_seen result.0) (shelf_seen shelf.new) }
     ensures number { W.number word.new ≡ raises_of (shelf_seen shelf.new).list }
     ensures made { W.made word.new ≡ W.made word.old }
 {
@@ -230,10 +207,7 @@ fn sync_changed<P: Parts>(
 ) -> (State<P>, Progress<Result<u64, UpdateError>>)
     requires ready { Ready P.C.Codec P.T.Transform P.F.Folder origin (at.SyncingFolder (at.Changed place)) (shelf_seen shelf.old) }
     requires lives { is_dead origin.call.node (shelf_seen shelf.old).list ≡ false }
-    ensures row { RowFrom P.C.Codec P.T.Transform P.F.Folder origin (at.SyncingFolder (at.Changed place)) (shelf_seen shelf.old) result.1 (state_seen result.0) (shelf_seen shelf.new) }
-    ensures store { (shelf_seen shelf.new).store ≡ (shelf_seen shelf.old).store }
-    ensures codec { shelf.new.codec ≡ shelf.old.codec }
-    ensures waits { StaysIfBlocked result.1 (shelf_seen shelf.old) (shelf_seen shelf.new) }
+    ensures steps { Steps P.C.Codec P.T.Transform P.F.Folder origin (at.SyncingFolder (at.Changed place)) (shelf_seen shelf.old) result.1 (state_seen result.0) (shelf_seen shelf.new) }
     ensures raises { raises_of (shelf_seen shelf.new).list ≡ raises_of (shelf_seen shelf.old).list }
 {
     match shelf.sync_folder(origin.call, None) {
@@ -256,10 +230,7 @@ fn sync_kept<P: Parts>(
 ) -> (State<P>, Progress<Result<u64, UpdateError>>)
     requires ready { Ready P.C.Codec P.T.Transform P.F.Folder origin (at.SyncingFolder (at.Kept edit)) (shelf_seen shelf.old) }
     requires lives { is_dead origin.call.node (shelf_seen shelf.old).list ≡ false }
-    ensures row { RowFrom P.C.Codec P.T.Transform P.F.Folder origin (at.SyncingFolder (at.Kept edit)) (shelf_seen shelf.old) result.1 (state_seen result.0) (shelf_seen shelf.new) }
-    ensures store { (shelf_seen shelf.new).store ≡ (shelf_seen shelf.old).store }
-    ensures codec { shelf.new.codec ≡ shelf.old.codec }
-    ensures waits { StaysIfBlocked result.1 (shelf_seen shelf.old) (shelf_seen shelf.new) }
+    ensures steps { Steps P.C.Codec P.T.Transform P.F.Folder origin (at.SyncingFolder (at.Kept edit)) (shelf_seen shelf.old) result.1 (state_seen result.0) (shelf_seen shelf.new) }
     ensures raises { raises_of (shelf_seen shelf.new).list ≡ raises_of (shelf_seen shelf.old).list }
 {
     match shelf.sync_folder(origin.call, Some(edit)) {

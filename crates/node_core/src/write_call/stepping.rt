@@ -4,9 +4,9 @@ ghost use Rattle.hist_journal.specs.Nodes.{is_dead};
 ghost use Rattle.hist_journal.specs.View.{kind_seen};
 ghost use Rattle.step_table.specs.Calls as at;
 ghost use Rattle.shelf.specs.ShelfSeen.{shelf_seen};
-ghost use Rattle.step_table.specs.WriteRows.{filling};
+ghost use Rattle.step_table.specs.Rows.{filling};
 ghost use Rattle.node_core.specs.Ready.{Ready};
-ghost use Rattle.node_core.specs.Steps.{WriteRow, WriteEquips};
+ghost use Rattle.node_core.specs.Steps.{WriteSteps};
 ghost use Rattle.node_core.specs.Views.{unwritten, whole, filled, write_seen};
 
 use super::{WriteCall, Written};
@@ -23,10 +23,7 @@ impl<P: Parts> WriteCall<P> {
         requires number { W.number word.old ≡ raises_of (shelf_seen shelf.old).list }
         requires ready { Ready P.C.Codec P.T.Transform P.F.Folder origin (write_seen self) (shelf_seen shelf.old) }
         requires lives { is_dead origin.call.node (shelf_seen shelf.old).list ≡ false }
-        ensures row { WriteRow P.C.Codec P.T.Transform P.F.Folder origin (write_seen self) (shelf_seen shelf.old) result (shelf_seen shelf.new) }
-        ensures store { (shelf_seen shelf.new).store ≡ (shelf_seen shelf.old).store }
-        ensures codec { shelf.new.codec ≡ shelf.old.codec }
-        ensures equips { WriteEquips P.C.Codec P.T.Transform P.F.Folder result (shelf_seen shelf.new) }
+        ensures steps { WriteSteps P.C.Codec P.T.Transform P.F.Folder origin (write_seen self) (shelf_seen shelf.old) result (shelf_seen shelf.new) }
         ensures number { W.number word.new ≡ raises_of (shelf_seen shelf.new).list }
         ensures made { W.made word.new ≡ W.made word.old }
     {
@@ -52,10 +49,7 @@ fn raise<P: Parts, W: Word>(
     requires number { W.number word.old ≡ raises_of (shelf_seen shelf.old).list }
     requires ready { Ready P.C.Codec P.T.Transform P.F.Folder origin (at.Raising (unwritten (kind_seen change) plan)) (shelf_seen shelf.old) }
     requires lives { is_dead origin.call.node (shelf_seen shelf.old).list ≡ false }
-    ensures row { WriteRow P.C.Codec P.T.Transform P.F.Folder origin (at.Raising (unwritten (kind_seen change) plan)) (shelf_seen shelf.old) result (shelf_seen shelf.new) }
-    ensures store { (shelf_seen shelf.new).store ≡ (shelf_seen shelf.old).store }
-    ensures codec { shelf.new.codec ≡ shelf.old.codec }
-    ensures equips { WriteEquips P.C.Codec P.T.Transform P.F.Folder result (shelf_seen shelf.new) }
+    ensures steps { WriteSteps P.C.Codec P.T.Transform P.F.Folder origin (at.Raising (unwritten (kind_seen change) plan)) (shelf_seen shelf.old) result (shelf_seen shelf.new) }
     ensures number { W.number word.new ≡ raises_of (shelf_seen shelf.new).list }
     ensures made { W.made word.new ≡ W.made word.old }
 {
@@ -69,12 +63,9 @@ fn create<P: Parts>(
     plan: Fresh,
     change: Kind<ValueOf<P>, P::T>,
 ) -> Written<P>
-    requires ready { Ready P.C.Codec P.T.Transform P.F.Folder origin (at.Creating (unwritten (kind_seen change) plan)) (shelf_seen shelf.old) }
+    requires ready { Ready P.C.Codec P.T.Transform P.F.Folder origin (at.Writing at.Creating (unwritten (kind_seen change) plan)) (shelf_seen shelf.old) }
     requires lives { is_dead origin.call.node (shelf_seen shelf.old).list ≡ false }
-    ensures row { WriteRow P.C.Codec P.T.Transform P.F.Folder origin (at.Creating (unwritten (kind_seen change) plan)) (shelf_seen shelf.old) result (shelf_seen shelf.new) }
-    ensures store { (shelf_seen shelf.new).store ≡ (shelf_seen shelf.old).store }
-    ensures codec { shelf.new.codec ≡ shelf.old.codec }
-    ensures equips { WriteEquips P.C.Codec P.T.Transform P.F.Folder result (shelf_seen shelf.new) }
+    ensures steps { WriteSteps P.C.Codec P.T.Transform P.F.Folder origin (at.Writing at.Creating (unwritten (kind_seen change) plan)) (shelf_seen shelf.old) result (shelf_seen shelf.new) }
     ensures raises { raises_of (shelf_seen shelf.new).list ≡ raises_of (shelf_seen shelf.old).list }
 {
     match shelf.create(origin.call, plan) {
@@ -89,12 +80,9 @@ fn append<P: Parts>(
     plan: Filled,
     change: Kind<ValueOf<P>, P::T>,
 ) -> Written<P>
-    requires ready { Ready P.C.Codec P.T.Transform P.F.Folder origin (at.Appending (filled (kind_seen change) plan)) (shelf_seen shelf.old) }
+    requires ready { Ready P.C.Codec P.T.Transform P.F.Folder origin (at.Writing at.Appending (filled (kind_seen change) plan)) (shelf_seen shelf.old) }
     requires lives { is_dead origin.call.node (shelf_seen shelf.old).list ≡ false }
-    ensures row { WriteRow P.C.Codec P.T.Transform P.F.Folder origin (at.Appending (filled (kind_seen change) plan)) (shelf_seen shelf.old) result (shelf_seen shelf.new) }
-    ensures store { (shelf_seen shelf.new).store ≡ (shelf_seen shelf.old).store }
-    ensures codec { shelf.new.codec ≡ shelf.old.codec }
-    ensures equips { WriteEquips P.C.Codec P.T.Transform P.F.Folder result (shelf_seen shelf.new) }
+    ensures steps { WriteSteps P.C.Codec P.T.Transform P.F.Folder origin (at.Writing at.Appending (filled (kind_seen change) plan)) (shelf_seen shelf.old) result (shelf_seen shelf.new) }
     ensures raises { raises_of (shelf_seen shelf.new).list ≡ raises_of (shelf_seen shelf.old).list }
 {
     match shelf.append(origin.call, plan) {
@@ -109,12 +97,9 @@ fn sync_scratch<P: Parts>(
     plan: Filled,
     change: Kind<ValueOf<P>, P::T>,
 ) -> Written<P>
-    requires ready { Ready P.C.Codec P.T.Transform P.F.Folder origin (at.SyncingScratch (filled (kind_seen change) plan)) (shelf_seen shelf.old) }
+    requires ready { Ready P.C.Codec P.T.Transform P.F.Folder origin (at.Writing at.SyncingScratch (filled (kind_seen change) plan)) (shelf_seen shelf.old) }
     requires lives { is_dead origin.call.node (shelf_seen shelf.old).list ≡ false }
-    ensures row { WriteRow P.C.Codec P.T.Transform P.F.Folder origin (at.SyncingScratch (filled (kind_seen change) plan)) (shelf_seen shelf.old) result (shelf_seen shelf.new) }
-    ensures store { (shelf_seen shelf.new).store ≡ (shelf_seen shelf.old).store }
-    ensures codec { shelf.new.codec ≡ shelf.old.codec }
-    ensures equips { WriteEquips P.C.Codec P.T.Transform P.F.Folder result (shelf_seen shelf.new) }
+    ensures steps { WriteSteps P.C.Codec P.T.Transform P.F.Folder origin (at.Writing at.SyncingScratch (filled (kind_seen change) plan)) (shelf_seen shelf.old) result (shelf_seen shelf.new) }
     ensures raises { raises_of (shelf_seen shelf.new).list ≡ raises_of (shelf_seen shelf.old).list }
 {
     match shelf.sync_scratch(origin.call, plan) {
@@ -129,12 +114,9 @@ fn rename<P: Parts>(
     plan: Synced,
     change: Kind<ValueOf<P>, P::T>,
 ) -> Written<P>
-    requires ready { Ready P.C.Codec P.T.Transform P.F.Folder origin (at.Renaming (whole (kind_seen change) plan)) (shelf_seen shelf.old) }
+    requires ready { Ready P.C.Codec P.T.Transform P.F.Folder origin (at.Writing at.Renaming (whole (kind_seen change) plan)) (shelf_seen shelf.old) }
     requires lives { is_dead origin.call.node (shelf_seen shelf.old).list ≡ false }
-    ensures row { WriteRow P.C.Codec P.T.Transform P.F.Folder origin (at.Renaming (whole (kind_seen change) plan)) (shelf_seen shelf.old) result (shelf_seen shelf.new) }
-    ensures store { (shelf_seen shelf.new).store ≡ (shelf_seen shelf.old).store }
-    ensures codec { shelf.new.codec ≡ shelf.old.codec }
-    ensures equips { WriteEquips P.C.Codec P.T.Transform P.F.Folder result (shelf_seen shelf.new) }
+    ensures steps { WriteSteps P.C.Codec P.T.Transform P.F.Folder origin (at.Writing at.Renaming (whole (kind_seen change) plan)) (shelf_seen shelf.old) result (shelf_seen shelf.new) }
     ensures raises { raises_of (shelf_seen shelf.new).list ≡ raises_of (shelf_seen shelf.old).list }
 {
     match shelf.rename(origin.call, plan, change) {

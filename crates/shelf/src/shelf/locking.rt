@@ -1,5 +1,6 @@
-ghost use Rattle.std.specs.Prelude.{◌≡◌, ◌↔◌, [], true, false, None};
+ghost use Rattle.std.specs.Prelude.{◌≡◌, [], false, None};
 ghost use Rattle.shelf.specs.Deaths.{has_died};
+ghost use Rattle.shelf.specs.LastRaise.{ends_in_raise};
 ghost use Rattle.shelf.specs.ShelfSeen.{shelf_seen};
 ghost use Rattle.shelf.specs.ShelfTurns.{IsRaised, Adds, Frees};
 ghost use Rattle.shelf.specs.Takes.{TakeRow};
@@ -15,7 +16,7 @@ impl<P: Parts> Shelf<P> {
     /// Whether a death ends the call before this step: the place of the Death. `since` is how many entries there were when
     /// the call's earliest turn began, if that is past. No death is planned yet, so none comes.
     pub fn begin(&mut self, call: CallId, step: Step, since: Option<u64>) -> Option<u64>
-        requires step { (is_writing step ≡ true) ↔ IsRaised call (shelf_seen self.old) }
+        requires step { is_writing step ≡ ends_in_raise call false (shelf_seen self.old).list }
         ensures none { result ≡ None }
         ensures lives { has_died call.node since self.new.ledger.journal.list ≡ false }
         ensures same { shelf_seen self.new ≡ shelf_seen self.old }

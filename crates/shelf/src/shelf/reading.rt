@@ -26,7 +26,7 @@ impl<P: Parts> Shelf<P> {
         ensures value { IsTrue P.F.told → IfSome (base_of result) (λ base. value_of P.T.after self.old.ledger.journal.base self.old.ledger.journal.list ≡ base) }
         ensures edition { IsOfEdition (edition_of self.old.ledger.journal.list) result }
         ensures contents { IsTrue P.F.told → P.F.contents self.new.folder ≡ P.F.contents self.old.folder }
-        ensures tally { Asks P.F.told result (P.F.tally self.old.folder) (P.F.tally self.new.folder) }
+        ensures tally { Asks P.F.told P.F.tally result self.old.folder self.new.folder }
         ensures room_kept { P.F.room self.new.folder ≡ P.F.room self.old.folder }
     {
         if self.ledger.make_room(call).is_err() {

@@ -1,5 +1,31 @@
-use Rattle.node_core.proofs.RowLemmas.{fails_row}
+use Rattle.std.proofs.Common.{refl}
+use Rattle.shelf.specs.ShelfSeen.{shelf_seen}
+use Rattle.store_traits.specs.declared.update_error.UpdateError.TheVariants.{StorageFault}
+use Rattle.step_table.specs.Calls.{Reading}
+use Rattle.step_table.specs.Requests.{ReadMain}
+use Rattle.step_table.specs.Rows.{read_fails}
+use Rattle.node_core.proofs.ReadLemmas.{Stops, read_stops}
+use Rattle.node_core.proofs.RowLemmas.{faults, version_left}
 use Rattle.node_core.proofs.read_held.read_held.Goals as goal
+use Rattle.node_core.proofs.read_held.read_held.Goals.{in-Corrupt, in-TooLong, in-NoMemory}
 
 pub returns-in-Faulted-clause-err : goal.returns-in-Faulted-clause-err
-returns-in-Faulted-clause-err g c = λ at. let e = c.in-Faulted.ensures in fails_row g.P.F.Folder c.args.origin at _ _ _ _ _ e.turn e.contents e.tally
+returns-in-Faulted-clause-err g c =
+    λ purpose ask.
+    let e = c.in-Faulted.ensures in
+    faults g.P.C.Codec g.P.T.Transform g.P.F.Folder c.args.origin (Reading purpose ask) _ _ ReadMain StorageFault _ read_fails e.turn (record { folder = e.contents; tally = e.tally })
+
+pub returns-in-Faulted-clause-raises : goal.returns-in-Faulted-clause-raises
+returns-in-Faulted-clause-raises g c = version_left c.in-Faulted.ensures.turn.leaves
+
+pub returns-clause-err : goal.returns-clause-err
+returns-clause-err g c =
+    let read = c.read_main.ensures in
+    let stops : Stops c.read_main.result c.match-read_main.error =
+    elim c.match-read_main.branch [ in-Corrupt w ↦ rw w.in-Corrupt.is w.error-is | in-TooLong w ↦ rw w.in-TooLong.is w.error-is | in-NoMemory w ↦ rw w.in-NoMemory.is w.error-is ] in
+    read_stops g.P.C.Codec g.P.T.Transform g.P.F.Folder c.args.origin (shelf_seen c.args.shelf.now) (shelf_seen c.read_main.new.self) (shelf_seen c.free.new.self)
+    c.free.ensures.turn
+    c.free.ensures.folder
+    read.contents
+    refl
+    _ c.read_main.result c.match-read_main.error stops read.turn read.reads read.tally

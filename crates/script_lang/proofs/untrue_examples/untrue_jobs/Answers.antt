@@ -6,8 +6,9 @@ use Rattle.prefs_edit.specs.Step.{after_step}
 use Rattle.shelf.specs.Images.{changed_mains, images, kept_front, unkept}
 use Rattle.shelf.specs.OpenRaise.{has_open_raise}
 use Rattle.script_lang.specs.Asked.{asked_by}
-use Rattle.script_lang.specs.Chronicle.{chronicle, count_after}
-use Rattle.script_lang.specs.GoodFailures.{ends_in_raise}
+use Rattle.shelf.specs.FaultCounts.{count_after}
+use Rattle.script_lang.specs.Chronicle.{chronicle}
+use Rattle.shelf.specs.LastRaise.{ends_in_raise}
 use Rattle.script_lang.specs.GoodPosts.{count_from}
 use Rattle.script_lang.specs.Shown.{last_flow, shown_to}
 use Rattle.script_lang.specs.Rules.{G7}

@@ -3,23 +3,48 @@ use Rattle.store_traits.specs.declared.ids.CallId.{CallId}
 use Rattle.folder_disk.specs.Contents.{Contents, Kept, Images, Wild}
 use Rattle.hist_journal.specs.Nodes.{is_dead, is_ready, last_mark}
 use Rattle.hist_journal.specs.Folds.{edition_of}
-use Rattle.shelf.specs.Deaths.{last_death, used_up}
-use Rattle.step_table.specs.ExampleTurns.{a}
-use Rattle.step_table.specs.World.{World}
 use Rattle.shelf.specs.declared.examples.ExampleEdit.{ExampleEdit}
+use Rattle.shelf.specs.Deaths.{last_death, used_up}
+use Rattle.shelf.specs.ExampleStore as example
+use Rattle.step_table.specs.Calls.{Changed, Reply, SyncingFolder, Updated}
+use Rattle.step_table.specs.Effects.{Comes, Effect, errs}
+use Rattle.step_table.specs.ExampleTurns.{a, rules}
+use Rattle.step_table.specs.Rows.{Row, acknowledges, sync_fails}
+use Rattle.step_table.specs.SingleTurns as single
+use Rattle.step_table.specs.World.{World, begin}
+use Rattle.step_table.specs.declared.progress.Progress.{Progress}
+use Rattle.step_table.specs.declared.progress.Progress.TheVariants.{Moved, Blocked, Ended}
+use Rattle.store_traits.specs.declared.update_error.UpdateError.TheVariants.{Died}
+use Rattle.step_table.proofs.Waiting.{turn_has_to_wait}
 use Rattle.step_table.proofs.examples.wrong_turns_are_refused.Goals as goal
 
 image_count : Kept → ℕ
 image_count (Images images) = length images
 image_count Wild = 0
 
+never_ends : (reply : Reply ℕ) → ◌≡◌ {A = Progress (Reply ℕ)} Moved (Ended reply) → ⊥
+never_ends reply same = cc
+
+never_waits : ◌≡◌ {A = Progress (Reply ℕ)} Moved Blocked → ⊥
+never_waits same = cc
+
+-- the row that acknowledges syncs the folder, and the other row gives another answer
+never_unsynced : {e : Effect ℕ ExampleEdit} → Row rules example.empty single.renamed (a 1) (SyncingFolder (Changed 3)) e
+    → Comes (begin single.acknowledged_without_sync) e (Ended (Updated 1)) → ⊥
+unfolding image_count
+never_unsynced acknowledges it = let count : ◌≡◌ {A = ℕ} 2 1 = ap (λ (c : Contents). image_count c.kept) (it.used.folder refl) in omega (arith, count)
+never_unsynced sync_fails it = let given = it.given in cc
+
 pub returns : goal.returns
-unfolding image_count is_dead is_ready last_mark last_death used_up edition_of
+unfolding is_dead is_ready last_mark last_death used_up edition_of
 returns c =
     record {
-      former_life_ends = (refl, refl, refl);
-      former_life_goes_on = λ it. absurd it;
-      lock_taken_from_another = λ it. it.free (λ same. (let client : 2 ≡ 1 = ap (λ (call : CallId). call.client.0) same in omega arith));
-      acknowledged_without_sync = λ it. (let count : 2 ≡ 1 = ap (λ (c : Contents). image_count c.kept) (it.1.folder refl) in omega arith);
-      lock_left_held = λ it. (let no : ◌≡◌ {A = Option CallId} (Some (a 1)) None = ap (λ (w : World ℕ ExampleEdit). w.owner) it.1.world in cc);
+      former_life_ends =
+          record { effect = errs (Died 3); allowed = record { place = 3; last = refl; is = refl }; comes = record { given = refl; used = tt; world = refl; call = refl } };
+      former_life_goes_on = λ it. never_ends _ (rw it.allowed.is at it.comes.given);
+      lock_taken_from_another =
+          λ it. never_waits (turn_has_to_wait rules example.empty single.lock_taken_from_another Moved it refl refl refl (λ same. (let client : 2 ≡ 1 = ap (λ (call : CallId). call.client.0) same in omega arith)));
+      acknowledged_without_sync = λ it. never_unsynced it.allowed it.comes;
+      lock_left_held =
+          λ it. (let owner : ◌≡◌ {A = Option CallId} (Some (a 1)) None = ap (λ (w : World ℕ ExampleEdit). w.owner) (rw it.allowed at it.comes.world) in cc);
     }

@@ -1,13 +1,15 @@
-use Rattle.std.proofs.Common.{◌≡◌, Some, refl}
+use Rattle.std.proofs.Common.{◌≡◌, ◌∙◌, Some, ap, refl}
+use Rattle.store_traits.specs.declared.update_error.UpdateError.TheVariants.{NotDurable}
+use Rattle.hist_journal.specs.Folds.{raises_of}
 use Rattle.hist_journal.specs.Quiet.{pending}
 use Rattle.shelf.specs.ShelfSeen.{shelf_seen}
 use Rattle.shelf.proofs.Bools.{never}
 use Rattle.shelf.proofs.GoingOn.{fault_fits}
-use Rattle.step_table.specs.Effects.{Keeps}
-use Rattle.step_table.specs.LastRows.{SyncsFolder}
+use Rattle.step_table.specs.Requests.{SyncFolder}
+use Rattle.step_table.specs.Rows.{acknowledges, sync_fails}
 use Rattle.node_core.proofs.EarlyLemmas.{early_goes_on}
 use Rattle.node_core.proofs.EndLemmas.{kept_fits, not_raised_twice}
-use Rattle.node_core.proofs.RowLemmas.{adds_then_frees, fails_row, fault_raises, freed_raises, last_row}
+use Rattle.node_core.proofs.RowLemmas.{ends_behind, faults, version_left}
 use Rattle.node_core.proofs.update_call.stepping.sync_kept.Goals as goal
 
 pub sync_folder-requires-clause-lawful : goal.sync_folder-requires-clause-lawful
@@ -24,22 +26,20 @@ free-requires g c =
     let k = c.requires.ready.knows in
     record { ended = λ is. not_raised_twice _ _ c.args.edit (λ was. never (k.raised.1 was)) (let here : pending _ ≡ Some c.args.origin.call = rw c.in-Ok.ensures.ok.list at is in here) }
 
-pub returns-in-Ok-clause-row : goal.returns-in-Ok-clause-row
-returns-in-Ok-clause-row g c =
-    let ok = c.in-Ok.ensures in
-    let owns = (c.requires.ready.knows.holds refl).owns in
-    let frees = adds_then_frees _ _ (shelf_seen c.args.shelf.now) (shelf_seen c.sync_folder.new.self) (shelf_seen c.free.new.self) owns ok.ok c.free.ensures.turn in
-    (ok.edition, last_row g.P.F.Folder c.args.origin _ _ _ _ _ SyncsFolder refl frees (rw c.free.ensures.folder ok.synced) (rw c.free.ensures.folder ok.tally))
+pub returns-in-Ok-clause-steps : goal.returns-in-Ok-clause-steps
+returns-in-Ok-clause-steps g c =
+    let e = c.in-Ok.ensures in
+    rw e.edition (ends_behind g.P.C.Codec g.P.T.Transform g.P.F.Folder c.args.origin _ _ _ (shelf_seen c.sync_folder.new.self) acknowledges e.ok
+    (record { folder = e.synced; tally = e.tally })
+    c.free.ensures.turn c.free.ensures.folder)
 
 pub returns-in-Ok-clause-raises : goal.returns-in-Ok-clause-raises
-returns-in-Ok-clause-raises g c =
-    let frees = adds_then_frees _ _ (shelf_seen c.args.shelf.now) (shelf_seen c.sync_folder.new.self) (shelf_seen c.free.new.self) (c.requires.ready.knows.holds refl).owns c.in-Ok.ensures.ok c.free.ensures.turn in
-    freed_raises _ _ _ _ refl frees
+returns-in-Ok-clause-raises g c = ap raises_of c.free.ensures.turn.list ∙ version_left c.in-Ok.ensures.ok
 
-pub returns-in-Err-clause-row : goal.returns-in-Err-clause-row
-returns-in-Err-clause-row g c =
+pub returns-in-Err-clause-steps : goal.returns-in-Err-clause-steps
+returns-in-Err-clause-steps g c =
     let e = c.in-Err.ensures in
-    fails_row g.P.F.Folder c.args.origin _ _ _ _ Keeps _ e.err e.failed e.tally
+    faults g.P.C.Codec g.P.T.Transform g.P.F.Folder c.args.origin _ _ _ SyncFolder NotDurable _ sync_fails e.err (record { folder = e.failed; tally = e.tally })
 
 pub returns-in-Err-clause-raises : goal.returns-in-Err-clause-raises
-returns-in-Err-clause-raises g c = fault_raises _ _ _ _ _ c.in-Err.ensures.err
+returns-in-Err-clause-raises g c = version_left c.in-Err.ensures.err.leaves

@@ -5,8 +5,8 @@ use Rattle.hist_journal.specs.Journal.{JournalSeen}
 use Rattle.shelf.proofs.GoingOn.{fault_fits}
 use Rattle.shelf.proofs.PendingLemmas.{open_iff_pending}
 use Rattle.node_core.proofs.EarlyLemmas.{early_goes_on}
-use Rattle.node_core.proofs.RenameLemmas.{edit_may, raises_nothing, rename_row, writes_due}
-use Rattle.node_core.proofs.RowLemmas.{added_raises, fails_row, fault_raises}
+use Rattle.node_core.proofs.RenameLemmas.{edit_may, raises_nothing, renames_main, writes_due}
+use Rattle.node_core.proofs.RowLemmas.{version_left, write_faults}
 use Rattle.node_core.proofs.write_call.stepping.rename.Goals as goal
 
 pub rename-requires-clause-fault : goal.rename-requires-clause-fault
@@ -22,17 +22,17 @@ rename-requires-clause-lawful g c =
 pub rename-requires-clause-writes : goal.rename-requires-clause-writes
 rename-requires-clause-writes g c = λ told. let ready = c.requires.ready in writes_due _ _ _ _ _ _ _ (ready.knows.contents told).due (ready.equipped.may told)
 
-pub returns-in-Ok-clause-row : goal.returns-in-Ok-clause-row
-returns-in-Ok-clause-row g c =
-    let ok = c.in-Ok.ensures in
-    let k = c.requires.ready.knows in
-    rename_row g.P.F.Folder c.args.origin _ _ _ _ k.plan.asked (k.holds refl).owns ok.ok (c.len.ensures ∙ ap (λ (journal : JournalSeen g.row.P-C-Value.Denot g.row.P-T.Denot). length journal.list) c.journal.ensures) ok.renamed ok.tally
+pub returns-in-Ok-clause-steps : goal.returns-in-Ok-clause-steps
+returns-in-Ok-clause-steps g c =
+    let e = c.in-Ok.ensures in
+    let place = c.len.ensures ∙ ap (λ (journal : JournalSeen g.row.P-C-Value.Denot g.row.P-T.Denot). length journal.list) c.journal.ensures in
+    renames_main g.P.C.Codec g.P.T.Transform g.P.F.Folder c.args.origin _ _ _ _ c.requires.ready.equipped e.ok place (record { folder = e.renamed; tally = e.tally })
 
 pub returns-in-Ok-clause-raises : goal.returns-in-Ok-clause-raises
-returns-in-Ok-clause-raises g c = added_raises c.args.origin.call _ _ _ (raises_nothing _ c.requires.ready.knows.plan.asked) c.in-Ok.ensures.ok
+returns-in-Ok-clause-raises g c = version_left c.in-Ok.ensures.ok ∙ raises_nothing _ _ c.requires.ready.knows.plan.asked
 
-pub returns-in-Err-clause-row : goal.returns-in-Err-clause-row
-returns-in-Err-clause-row g c = fails_row g.P.F.Folder c.args.origin _ _ _ _ _ _ c.in-Err.ensures.err c.in-Err.ensures.failed c.in-Err.ensures.tally
+pub returns-in-Err-clause-steps : goal.returns-in-Err-clause-steps
+returns-in-Err-clause-steps g c = let e = c.in-Err.ensures in write_faults g.P.C.Codec g.P.T.Transform g.P.F.Folder c.args.origin _ _ _ _ _ e.err e.failed e.tally
 
 pub returns-in-Err-clause-raises : goal.returns-in-Err-clause-raises
-returns-in-Err-clause-raises g c = fault_raises _ _ _ _ _ c.in-Err.ensures.err
+returns-in-Err-clause-raises g c = version_left c.in-Err.ensures.err.leaves

@@ -13,7 +13,7 @@ returns-clause-tells c =
     let parts = c.into_parts-parts in
     let told = subst (λ clients. TellAnswers c.in_ok-answers.answers.items (flat_map (λ client. client.answered.items) clients)) c.deref.ensures.value c.in_ok-answers.ensures in
     record {
-      answers = ap (λ lines. map answered_of lines) c.new.ensures ∙ (told ∙ ap (λ list. map (λ (a : Answered). Some a) list) (answers_seen stage stage.clients.items));
+      answers = ap (λ lines. map answered_of lines) c.new.ensures ∙ (told ∙ ap (λ list. map (λ (a : Answered). Some a) list) (answers_seen stage.clients.items));
       entries = ap (λ journal. journal.list) parts.ensures.journal;
       file = c.in_ok-file.ensures ∙ ap (λ main. file_seen 1048576 main) (c.main.ensures ∙ ap (λ folder. (contents_of folder).main) parts.ensures.folder);
     }

@@ -3,7 +3,7 @@ use Rattle.std.proofs.lemmas.Option.{slice_get-map, slice_get_read}
 use Rattle.shelf.specs.declared.store.Store.{Store}
 use Rattle.replay_run.specs.Order.{GoesTimes}
 use Rattle.replay_run.specs.StageScene.{scene_in}
-use Rattle.replay_run.specs.StageView.{Value, client_in, rules_in, store_in}
+use Rattle.replay_run.specs.StageView.{Value, client_seen, rules_in, store_in}
 use Rattle.replay_run.specs.Step.{Goes}
 use Rattle.replay_run.proofs.RunLemmas.{times_more, times_none, times_rested}
 use Rattle.replay_run.proofs.StageAsked.{few_on, place_on, works_seen}
@@ -66,10 +66,10 @@ returns-then-not-has_work-clause-goes c =
     let client = c.index.result.now in
     let within = place_on old now c.args.place c.loop-step.invariant.on c.requires.within in
     let there = slice_get_read now.clients.items (vec_len now.clients) c.args.place client now.clients.ok.0 within c.index.ensures in
-    let found : slice_get (scene_in now).clients c.args.place ≡ Some (client_in now.shelf client) =
-    slice_get-map (λ x. client_in now.shelf x) now.clients.items c.args.place ∙ ap (λ o. option_map (λ x. client_in now.shelf x) o) there in
+    let found : slice_get (scene_in now).clients c.args.place ≡ Some (client_seen client) =
+    slice_get-map client_seen now.clients.items c.args.place ∙ ap (option_map client_seen) there in
     let steps : c.loop-step._step ≤ c.args.steps = c.loop-step.auto._step-end in
-    times_rested (rules_in old.shelf) (store_in old.shelf) c.args.place (scene_in now) (client_in now.shelf client) found (works_seen now client ∙ (sym c.has_work.ensures ∙ c.if-not-has_work.true)) c.loop-step._step c.args.steps (scene_in old)
+    times_rested (rules_in old.shelf) (store_in old.shelf) c.args.place (scene_in now) (client_seen client) found (works_seen client ∙ (sym c.has_work.ensures ∙ c.if-not-has_work.true)) c.loop-step._step c.args.steps (scene_in old)
     c.loop-step.invariant.goes steps
 
 pub returns-then-not-has_work-clause-keeps : goal.returns-then-not-has_work-clause-keeps

@@ -4,7 +4,7 @@ use Rattle.shelf.specs.declared.store.Store.{Store}
 use Rattle.replay_run.specs.Run.{GoesEach}
 use Rattle.replay_run.specs.SceneKeeps.{SceneKeeps}
 use Rattle.replay_run.specs.StageScene.{scene_in}
-use Rattle.replay_run.specs.StageView.{Value, client_in, rules_in, store_in}
+use Rattle.replay_run.specs.StageView.{Value, client_seen, rules_in, store_in}
 use Rattle.replay_run.specs.Step.{Goes}
 use Rattle.replay_run.specs.WorkLeft.{RoundSoFar}
 use Rattle.replay_run.proofs.RunLemmas.{each_more, each_none}
@@ -56,7 +56,7 @@ all_went : (c : goal.After-loop-place) → c.loop-place.place ≡ length (scene_
 all_went c =
     let old = c.args.self.now in
     let end : c.loop-place.place ≡ c.len-place-end.result = omega (arith, c.loop-place-test.false, c.loop-place.auto.place-end) in
-    end ∙ (c.len-place-end.ensures ∙ (old.clients.ok.0 ∙ sym (length-map old.clients.items (λ x. client_in old.shelf x))))
+    end ∙ (c.len-place-end.ensures ∙ (old.clients.ok.0 ∙ sym (length-map old.clients.items client_seen)))
 
 pub returns-clause-round : goal.returns-clause-round
 returns-clause-round c =

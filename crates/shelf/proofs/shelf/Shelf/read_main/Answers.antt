@@ -24,13 +24,13 @@ pub invariant_of-self-in-TooLong-1 : goal.invariant_of-self-in-TooLong-1
 invariant_of-self-in-TooLong-1 g c =
     let s = c.args.self.now in
     let call = c.in-Err-TooLong.ensures in
-    record { low_limit = s.low_limit; kept = kept_still _ _ _ _ _ _ _ _ _ s.ledger c.make_room.new.self (equal_stays _ _ _ _ _ _ _ call.tally call.contents) c.make_room.ensures.same s.kept }
+    record { low_limit = s.low_limit; kept = kept_still _ _ _ _ _ _ _ _ _ s.ledger c.make_room.new.self (equal_stays _ _ _ _ _ _ _ (rw c.in-Err-TooLong.field-0-is at call.tally) call.contents) c.make_room.ensures.same s.kept }
 
 pub invariant_of-self-in-Err-NoMemory : goal.invariant_of-self-in-Err-NoMemory
 invariant_of-self-in-Err-NoMemory g c =
     let s = c.args.self.now in
     let call = c.in-Err-NoMemory.ensures in
-    record { low_limit = s.low_limit; kept = kept_still _ _ _ _ _ _ _ _ _ s.ledger c.make_room.new.self (equal_stays _ _ _ _ _ _ _ call.tally call.contents) c.make_room.ensures.same s.kept }
+    record { low_limit = s.low_limit; kept = kept_still _ _ _ _ _ _ _ _ _ s.ledger c.make_room.new.self (equal_stays _ _ _ _ _ _ _ (rw c.in-Err-NoMemory.field-0-is at call.tally) call.contents) c.make_room.ensures.same s.kept }
 
 pub returns-in-Ok-clause-value : goal.returns-in-Ok-clause-value
 returns-in-Ok-clause-value g c =

@@ -1,0 +1,7 @@
+use Rattle.shelf.specs.Rules.{rules_of}
+use Rattle.step_table.proofs.LockKept.{turn_leaves_lock}
+use Rattle.step_table.proofs.laws.turns_leave_the_lock.Goals as goal
+
+pub returns : goal.returns
+returns g c =
+    λ codec s. turn_leaves_lock (rules_of g.T.Transform.after g.T.Transform.weight_of (g.C.Codec.encoded codec) (g.C.Codec.reads codec) (g.C.Codec.default_of codec)) s
