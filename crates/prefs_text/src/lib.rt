@@ -1,5 +1,6 @@
 //! Exact texts of values and maps, of edits, entries and answers, and which value a text is. It stands on
-//! `prefs_model`, `prefs_edit` and `hist_journal` for what is told, and on `serde_json`, `hex` and `itoa` for its parts.
+//! `prefs_model`, `prefs_edit` and `hist_journal` for what is told, on `store_traits` for the names of calls, and on
+//! `serde_json`, `hex` and `itoa` for its parts.
 //! The contracts above it are the one text of each, and `IsValueText`, the value that a text is.
 #![tactic(auto)]
 
