@@ -1,6 +1,6 @@
 mod Fits
 mod Holds
 mod LeftAlone
-mod Maps
+pub mod Maps
 pub mod Same
 mod Turns

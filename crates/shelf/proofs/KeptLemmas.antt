@@ -104,10 +104,10 @@ weight_of_kinds r (kind ∷ kinds) = weight_by r kind + weight_of_kinds r kinds
 
 module _ {V T M : Type 0} (r : Rules V T) (I : V → Type 0) where
   module _ (s : Store V M) where
-    main_still : (c c' : Contents) (list : List (EntrySeen V T)) → c'.main ≡ c.main → KeptMain r I s c list → KeptMain r I s c' list
+    pub main_still : (c c' : Contents) (list : List (EntrySeen V T)) → c'.main ≡ c.main → KeptMain r I s c list → KeptMain r I s c' list
     main_still c c' list same k = record { legal = k.legal; main = same ∙ k.main; base = k.base; changed = k.changed }
 
-    main_other : (c : Contents) (list : List (EntrySeen V T)) (e : EntrySeen V T) → is_change e.kind ≡ false → Fits r.meanings s list e → KeptMain r I s c list → KeptMain r I s c (list ++ e ∷ [])
+    pub main_other : (c : Contents) (list : List (EntrySeen V T)) (e : EntrySeen V T) → is_change e.kind ≡ false → Fits r.meanings s list e → KeptMain r I s c list → KeptMain r I s c (list ++ e ∷ [])
     main_other c list e other fits k =
         record {
           legal = Legal-push r.meanings s list e k.legal fits;
@@ -119,7 +119,7 @@ module _ {V T M : Type 0} (r : Rules V T) (I : V → Type 0) where
               record { value = was.value; held = value_of-other r.meanings.after s.base list e other ∙ was.held; may = was.may };
         }
 
-    main_change : (c c' : Contents) (list : List (EntrySeen V T)) (e : EntrySeen V T) (plan : List ℕ) → is_change e.kind ≡ true → Fits r.meanings s list e → WritesChange r I s list e plan → c'.main ≡ Some plan
+    pub main_change : (c c' : Contents) (list : List (EntrySeen V T)) (e : EntrySeen V T) (plan : List ℕ) → is_change e.kind ≡ true → Fits r.meanings s list e → WritesChange r I s list e plan → c'.main ≡ Some plan
         → KeptMain r I s c list → KeptMain r I s c' (list ++ e ∷ [])
     main_change c c' list e plan change fits writes now k =
         record {
