@@ -89,14 +89,14 @@ module _ (b : Basis) (c : Chapter) where
   module _ (e : PrefEntry) where
     -- the answered call may have such an entry, and carries its edit
     abbrev pub IsIts : AnswerLineSeen → Type 0
-    IsIts line = (line.call ≡ e.who) × ((may_stand b c line.answer ≡ true) × Carried c line.call line.poster (λ edit. Carries edit e.kind))
+    IsIts line = (line.call ≡ e.who) × ((may_stand line.answer ≡ true) × Carried c line.call line.poster (λ edit. Carries edit e.kind))
 
     abbrev pub own_edit : Decided (IsOwnEdit b c e)
     own_edit =
         like
         (λ it. let own = it.holds.1.1 in record { line = it.item; edit = own.edit; answered = it.among; own = it.holds.0; may = it.holds.1.0; asked = own.carried; carried = own.fits })
         (λ it. record { item = it.line; among = it.answered; holds = (it.own, (it.may, record { edit = it.edit; carried = it.asked; fits = it.carried })) })
-        (found IsIts (λ line. both (one_call line.call e.who) (both (yes (may_stand b c line.answer)) (carried c line.call line.poster (λ edit. Carries edit e.kind) (λ edit. carries edit e.kind)))) c.told.answers)
+        (found IsIts (λ line. both (one_call line.call e.who) (both (yes (may_stand line.answer)) (carried c line.call line.poster (λ edit. Carries edit e.kind) (λ edit. carries edit e.kind)))) c.told.answers)
 
   abbrev pub has_causes : Decided (HasCauses b c)
   has_causes =

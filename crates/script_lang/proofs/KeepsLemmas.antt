@@ -1,12 +1,14 @@
 -- Each script keeps what is asked of scripts, since each of its lines does.
 use Rattle.std.proofs.Common.{ℕ, zero, suc, ◌≡◌, ◌+◌, ◌<◌, ◌≤◌, ◌⊎◌, ◌∙◌, List, [], ◌∷◌, ◌++◌, Option, Some, None, length, ap, sym, refl, subst, inl, inr, ⊎_elim, arith, lit≤, length-append, append-nil, append_assoc}
-use Rattle.std.specs.Prelude.{Contains, codes, slice_get, unwrap_or}
+use Rattle.std.specs.Prelude.{All, Contains, codes, slice_get, unwrap_or}
 use Rattle.std.specs.List.{filter_map}
 use Rattle.std.specs.List.{cons_option}
 use Rattle.std.specs.Option.{IfSome, IsSomeAnd}
 use Rattle.std.proofs.lemmas.Bool.{cases_lt}
-use Rattle.std.proofs.lemmas.List.Elements.{All-nil, All-push, All-weaker, Contains-push_cases}
+use Rattle.std.proofs.lemmas.List.Elements.{All-cons, All-nil, All-push, All-weaker, Contains-push_cases}
 use Rattle.std.proofs.lemmas.Option.{slice_get_within}
+use Rattle.folder_disk.specs.declared.call.Planned.{Planned}
+use Rattle.prefs_text.specs.declared.names.Names.{Names}
 use Rattle.store_traits.specs.declared.ids.ClientId.{ClientId}
 use Rattle.store_traits.specs.declared.ids.NodeId.{NodeId}
 use Rattle.script_words.specs.Names.{IsName, reserved}
@@ -16,7 +18,7 @@ use Rattle.script_lang.specs.declared.line.Line.TheVariants.{Nothing, File, Hist
 use Rattle.script_lang.specs.declared.line_word.LineWord.TheVariants as word
 use Rattle.script_lang.specs.declared.mode.Mode.{Mode}
 use Rattle.script_lang.specs.declared.run_line.Act.{Act}
-use Rattle.script_lang.specs.declared.run_line.Act.TheVariants.{Update, Go, Read, Flow, Post, Restart}
+use Rattle.script_lang.specs.declared.run_line.Act.TheVariants.{Update, Go, Restart}
 use Rattle.script_lang.specs.declared.run_line.RunLine.{RunLine}
 use Rattle.script_lang.specs.declared.script.Script.{Script}
 use Rattle.script_lang.specs.declared.script_error.ScriptFault.{ScriptFault}
@@ -24,20 +26,29 @@ use Rattle.script_lang.specs.declared.script_error.ScriptFault.TheVariants.{Name
 use Rattle.script_lang.specs.Draft.{draft_of, run_of}
 use Rattle.script_lang.specs.Faults.{IsTaken, RowBreaks, SomeRowBreaks}
 use Rattle.script_lang.specs.Growth.{draft_with}
-use Rattle.script_lang.specs.Keeps.{CanName, Keeps, KeepsEntries, KeepsHomes, KeepsNames, KeepsRun, KeepsRuns, StandOnce}
+use Rattle.script_lang.specs.Keeps.{CanName, IsBuiltAct, Keeps, KeepsAct, KeepsDeath, KeepsEntries, KeepsHomes, KeepsNames, KeepsPlan, KeepsRun, StandOnce}
 use Rattle.script_lang.specs.Lines.{lines_of}
-use Rattle.script_lang.specs.Meaning.{AllSay, Means, Says}
+use Rattle.script_lang.specs.Meaning.{AllSay, Means, Says, script_of}
 use Rattle.script_lang.specs.Rows.{Row, keyword}
+use Rattle.script_lang.specs.SessionPlans.{plain}
 use Rattle.script_lang.specs.Spelling.{SomeRowSpells, SpellsAct}
 use Rattle.script_lang.proofs.GrowthLemmas.{draft_grows, says_has_place}
 use Rattle.script_lang.proofs.NameLemmas.{Contains-from_slice_get}
+
+abbrev names_of : Draft → Names
+names_of draft = record { nodes = draft.nodes; clients = draft.clients }
+
+abbrev IsBuiltLine : RunLine → Type 0
+IsBuiltLine line = IsBuiltAct line.act
 
 -- the same of a draft
 pub record KeepsDraft (draft : Draft) : Type 0 where
   pub names : KeepsNames draft.nodes draft.clients
   pub homes : KeepsHomes draft.nodes draft.clients draft.homes
   pub entries : IfSome draft.entries KeepsEntries
-  pub runs : KeepsRuns draft.clients draft.lines
+  pub runs : All (KeepsRun (names_of draft)) draft.lines
+  pub acts : All IsBuiltLine draft.lines
+  pub few : length draft.lines ≤ 100000
 
 none_twice : StandOnce []
 none_twice i j name e f = cc
@@ -47,7 +58,9 @@ empty_keeps mode = record {
   names = record { nodes_named = All-nil CanName; clients_named = All-nil CanName; nodes_once = none_twice; clients_once = none_twice; apart = λ name has. absurd (omega (arith, has.1)); few_nodes = lit≤ tt; few_clients = lit≤ tt };
   homes = record { one_each = refl; declared = All-nil (λ (home : NodeId). home.0 < 0) };
   entries = tt;
-  runs = record { each = All-nil (KeepsRun []); few = lit≤ tt };
+  runs = All-nil (KeepsRun (record { nodes = []; clients = [] }));
+  acts = All-nil IsBuiltLine;
+  few = lit≤ tt;
 }
 
 -- at each place of a longer list stands what stood there, or the last
@@ -108,19 +121,18 @@ one_home_more nodes clients homes name home keeps within =
       declared = All-push (λ (h : NodeId). h.0 < length nodes) homes home keeps.declared within;
     }
 
-runs_of_more_clients : (clients : List (List ℕ)) (lines : List RunLine) (name : List ℕ) → KeepsRuns clients lines → KeepsRuns (clients ++ name ∷ []) lines
-runs_of_more_clients clients lines name keeps = record {
-  each = All-weaker (KeepsRun clients) (KeepsRun (clients ++ name ∷ [])) (λ line kept. record { declared = omega (arith, length-append clients (name ∷ []), kept.declared); act = kept.act }) lines keeps.each;
-  few = keeps.few;
-}
+act_of_more_nodes : (few many : List (List ℕ)) → length few ≤ length many → (act : Act) → KeepsAct few act → KeepsAct many act
+act_of_more_nodes few many more (Restart node) within = omega (arith, more, within)
+act_of_more_nodes few many more other keeps = keeps
 
-act_keeps : (draft : Draft) (row : Row) (client : ClientId) (act : Act) → SpellsAct draft row client act → KeepsRun draft.clients (record { client = client; act = act })
-act_keeps draft row client (Update edit) spelled = record { declared = slice_get_within draft.clients client.0 spelled.name spelled.declared; act = spelled.follow.is_edit }
-act_keeps draft row client (Go steps) spelled = record { declared = slice_get_within draft.clients client.0 spelled.name spelled.declared; act = spelled.follow.is_number.high }
-act_keeps draft row client Read spelled = absurd spelled
-act_keeps draft row client Flow spelled = absurd spelled
-act_keeps draft row client (Post edit) spelled = absurd spelled
-act_keeps draft row client (Restart node) spelled = absurd spelled
+runs_of_more_names : (few many : Names) (lines : List RunLine) → length few.nodes ≤ length many.nodes → length few.clients ≤ length many.clients → All (KeepsRun few) lines → All (KeepsRun many) lines
+runs_of_more_names few many lines nodes clients =
+    All-weaker (KeepsRun few) (KeepsRun many) (λ line kept. record { declared = omega (arith, clients, kept.declared); act = act_of_more_nodes few.nodes many.nodes nodes line.act kept.act }) lines
+
+act_keeps : (draft : Draft) (row : Row) (client : ClientId) (act : Act) → SpellsAct draft row client act → KeepsRun (names_of draft) (record { client = client; act = act }) × IsBuiltAct act
+act_keeps draft row client (Update edit) spelled = (record { declared = slice_get_within draft.clients client.0 spelled.name spelled.declared; act = spelled.follow.is_edit }, tt)
+act_keeps draft row client (Go steps) spelled = (record { declared = slice_get_within draft.clients client.0 spelled.name spelled.declared; act = spelled.follow.is_number.high }, tt)
+act_keeps draft row client other spelled = absurd spelled
 
 few_more : (n number m : ℕ) → n < number → ¬ (100000 < number) → m ≡ n + 1 → m ≤ 100000
 few_more n number m less few is = ⊎_elim (λ more. absurd (few (omega arith))) (λ within. within) (cases_lt 100000 m)
@@ -140,10 +152,10 @@ module _ (draft : Draft) (number : ℕ) (line : List ℕ) (keeps : KeepsDraft dr
 
   pub draft_keeps : (said : Line) → Says draft number line said → length draft.lines < number → KeepsDraft (draft_with draft said)
   draft_keeps Nothing says few = keeps
-  draft_keeps (File main) says few = record { names = keeps.names; homes = keeps.homes; entries = keeps.entries; runs = keeps.runs }
+  draft_keeps (File main) says few = record { names = keeps.names; homes = keeps.homes; entries = keeps.entries; runs = keeps.runs; acts = keeps.acts; few = keeps.few }
   draft_keeps (History entries) says few =
       let number_is = says.spelled.spells.follow.is_number in
-      record { names = keeps.names; homes = keeps.homes; entries = record { some = number_is.low; few = number_is.high }; runs = keeps.runs }
+      record { names = keeps.names; homes = keeps.homes; entries = record { some = number_is.low; few = number_is.high }; runs = keeps.runs; acts = keeps.acts; few = keeps.few }
   draft_keeps (Node name) says few =
       let spelled = says.spelled in
       let place = says_has_place draft number line (Node name) says in
@@ -153,7 +165,9 @@ module _ (draft : Draft) (number : ℕ) (line : List ℕ) (keeps : KeepsDraft dr
             (fresh_name row.behind [] name row.follow.row (kept_rule (Node name) spelled (keyword word.Node row.behind) row.is NameTaken (says.keeps_rules NameTaken)));
         homes = homes_of_more_nodes draft.nodes draft.clients draft.homes name keeps.homes;
         entries = keeps.entries;
-        runs = keeps.runs;
+        runs = runs_of_more_names (names_of draft) (names_of (draft_with draft (Node name))) draft.lines (omega (arith, length-append draft.nodes (name ∷ []))) (omega arith) keeps.runs;
+        acts = keeps.acts;
+        few = keeps.few;
       }
   draft_keeps (Client name home) says few =
       let spelled = says.spelled in
@@ -164,18 +178,20 @@ module _ (draft : Draft) (number : ℕ) (line : List ℕ) (keeps : KeepsDraft dr
             (fresh_name row.behind (codes "on" ∷ row.home_name ∷ []) name row.follow.row (kept_rule (Client name home) spelled (keyword word.Client row.behind) row.is NameTaken (says.keeps_rules NameTaken)));
         homes = one_home_more draft.nodes draft.clients draft.homes name home keeps.homes (slice_get_within draft.nodes home.0 row.home_name row.declared);
         entries = keeps.entries;
-        runs = runs_of_more_clients draft.clients draft.lines name keeps.runs;
+        runs = runs_of_more_names (names_of draft) (names_of (draft_with draft (Client name home))) draft.lines (omega arith) (omega (arith, length-append draft.clients (name ∷ []))) keeps.runs;
+        acts = keeps.acts;
+        few = keeps.few;
       }
   draft_keeps (Run run) says few =
       let within : ¬ (100000 < number) = says.keeps_rules TooManyLines in
+      let kept = act_keeps draft says.spelled.row run.client run.act says.spelled.spells in
       record {
         names = keeps.names;
         homes = keeps.homes;
         entries = keeps.entries;
-        runs = record {
-          each = All-push (KeepsRun draft.clients) draft.lines run keeps.runs.each (act_keeps draft says.spelled.row run.client run.act says.spelled.spells);
-          few = few_more (length draft.lines) number (length (draft.lines ++ run ∷ [])) few within (length-append draft.lines (run ∷ []));
-        };
+        runs = All-push (KeepsRun (names_of draft)) draft.lines run keeps.runs kept.0;
+        acts = All-push IsBuiltLine draft.lines run keeps.acts kept.1;
+        few = few_more (length draft.lines) number (length (draft.lines ++ run ∷ [])) few within (length-append draft.lines (run ∷ []));
       }
 
 -- all lines, one by one
@@ -210,11 +226,17 @@ pub script_keeps : (mode : Mode) (bytes : List ℕ) (script : Script) → Means 
 script_keeps mode bytes script means =
     let keeps = lines_keep mode [] (lines_of bytes) means.said means.each (empty_keeps mode) in
     let draft = draft_of mode means.said in
+    let made = script_of draft in
+    let plan = plain draft.lines in
     let P : Script → Type 0 = Keeps in
     subst P (sym means.made) (record {
       names = keeps.names;
       homes = keeps.homes;
       entries = within_entries draft.entries keeps.entries;
-      unreplaced = refl;
-      sessions = record { plan = record { folder_faults = []; fuse = None; deaths = []; lines = draft.lines; stop = None }; only = refl; plain = refl; runs = keeps.runs };
+      sessions = record {
+        plans = All-cons (KeepsPlan made) plan [] (record { faults = All-nil (λ (planned : Planned). 1 ≤ planned.number); deaths = All-nil (KeepsDeath draft.homes); runs = keeps.runs }) (All-nil (KeepsPlan made));
+        stops = refl;
+        few = omega (arith, keeps.few);
+      };
+      built = record { plan = plan; only = refl; plain = refl; acts = keeps.acts; unreplaced = refl };
     })

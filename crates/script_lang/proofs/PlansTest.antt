@@ -24,11 +24,11 @@ module _ (c : Chapter) where
     abbrev pub IsIts : PlannedDeath → Type 0
     IsIts death = (death.call ≡ call) × (is_writing death.step ≡ ends_in_raise call false before)
 
-    abbrev pub planned : Decided (IsPlanned c before call)
+    abbrev pub planned : Decided (IsPlanned c.plan.deaths before call)
     planned =
         like
-        (λ it. record { death = it.item; planned = it.among; own = it.holds.0; step = it.holds.1 })
-        (λ it. record { item = it.death; among = it.planned; holds = (it.own, it.step) })
+        (λ it. record { death = it.item; is = it.among; own = it.holds.0; step = it.holds.1 })
+        (λ it. record { item = it.death; among = it.is; holds = (it.own, it.step) })
         (found IsIts (λ death. both (one_call death.call call) (same_bool (is_writing death.step) (ends_in_raise call false before))) c.plan.deaths)
 
   abbrev pub spares : (call : CallId) (answer : AnswerSeen) → Decided (Spares c call answer)
@@ -45,7 +45,7 @@ module _ (c : Chapter) where
       (λ it. record { deaths = it.0; spared = it.1 })
       (λ it. (it.deaths, it.spared))
       (both
-      (each (λ before e. is_death e.kind ≡ true → IsPlanned c before e.who) (λ before e. if_so (yes (is_death e.kind)) (planned before e.who)) c.told.entries)
+      (each (λ before e. is_death e.kind ≡ true → IsPlanned c.plan.deaths before e.who) (λ before e. if_so (yes (is_death e.kind)) (planned before e.who)) c.told.entries)
       (each (λ before line. Spares c line.call line.answer) (λ before line. spares line.call line.answer) c.told.answers))
 
   abbrev pub fails_as_planned : Decided (FailsAsPlanned c)

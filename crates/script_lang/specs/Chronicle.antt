@@ -1,11 +1,13 @@
 -- The sessions of a transcript, as they follow one another over stops of the machine.
-use Rattle.std.specs.Prelude.{◌≡◌, ℕ, ◌-◌, min, true, false, List, [], ◌∷◌, ◌++◌, length, replicate, slice_index_or, map, Option, Some, None, is_some, unwrap_or, if◌then◌else◌}
+use Rattle.std.specs.Prelude.{◌≡◌, ℕ, ◌-◌, min, true, List, [], ◌∷◌, ◌++◌, length, slice_index_or, map, Option, Some, None, unwrap_or, if◌then◌else◌}
 use Rattle.std.specs.List.{enumerate_from}
 use Rattle.store_traits.specs.declared.ids.NodeId.{NodeId}
+use Rattle.folder_disk.specs.Due.{Due}
 use Rattle.folder_disk.specs.MainRead.{main_of}
+use Rattle.folder_disk.specs.Planned.{no_calls}
+use Rattle.folder_disk.specs.Tally.{Tally, most_of}
 use Rattle.prefs_model.specs.declared.pref_pair.PrefPair.{PrefPair}
 use Rattle.prefs_edit.specs.declared.edit_step.EditStep.{EditStep}
-use Rattle.prefs_text.specs.EntryText.{PrefEntry}
 use Rattle.hist_journal.specs.declared.device.Device.TheVariants.{Folder, Legacy}
 use Rattle.shelf.specs.declared.store.Store.{Store}
 use Rattle.shelf.specs.Base.{HasItsBase}
@@ -18,6 +20,7 @@ use Rattle.script_lang.specs.declared.script.Script.{Script}
 use Rattle.script_lang.specs.declared.session_plan.SessionPlan.{SessionPlan}
 use Rattle.script_lang.specs.Asked.{Asked, asked_by}
 use Rattle.shelf.specs.Each.{Each}
+use Rattle.script_lang.specs.SessionPlans.{StopBetween}
 use Rattle.script_lang.specs.TranscriptView.{SessionSeen}
 
 -- what edits and files mean, how long a file may be, and how much a history may weigh
@@ -50,6 +53,18 @@ nodes_of script = map (λ placed. record { 0 = placed.0 }) (enumerate_from 0 scr
 abbrev pub image : ℕ → List (Option (List ℕ)) → Option (List ℕ)
 image number all = slice_index_or all (min number (length all - 1)) None
 
+abbrev pub fuses_of : Option ℕ → List ℕ
+fuses_of None = []
+fuses_of (Some left) = left ∷ []
+
+-- what the plan has fail: calls of the folder by their number, and each behind a fuse
+abbrev pub due_of : SessionPlan → Due
+due_of plan = record { planned = plan.folder_faults; made = no_calls; fuses = fuses_of plan.fuse }
+
+-- where so many calls had failed before
+abbrev pub tally_of : ℕ → SessionPlan → Tally
+tally_of count plan = record { count = count; most = most_of count (due_of plan); due = due_of plan }
+
 module _ (b : Basis) where
   -- old settings and migrations join, once scripts have them
   abbrev pub store_of : Script → Beginning → SessionPlan → SessionSeen → Store (List PrefPair) (Unit {0})
@@ -63,7 +78,7 @@ module _ (b : Basis) where
         deaths = plan.deaths;
         main = start.main;
         sections = [];
-        folder = record { count = start.folder; most = None };
+        folder = record { count = start.folder; most = most_of start.folder (due_of plan) };
         legacy = record { count = start.legacy; most = None };
         alone = true;
       }
@@ -96,6 +111,5 @@ module _ (b : Basis) where
   pub record IsChronicle (script : Script) (told : List SessionSeen) (chapters : List Chapter) : Type 0 where
     -- a session is told for each of the script
     pub sessions : length told ≡ length script.sessions
-    -- a session ends in a stop exactly where a next one begins
-    pub stops : map (λ plan. is_some plan.stop) script.sessions ≡ replicate (length script.sessions - 1) true ++ false ∷ []
+    pub stops : StopBetween script.sessions
     pub lawful : Each (λ before c. IsLawful c) chapters

@@ -45,6 +45,14 @@ pub record IsAlive (call : CallId) (node : NodeId) (list : List PrefEntry) : Typ
   pub alive : is_dead node front ≡ false
   pub earlier : list_any (is_earlier call) back ≡ false
 
+-- of calls that are answered so an Edit or a Same may stand
+abbrev pub may_stand : AnswerSeen → Bool
+may_stand (Updated edition) = true
+may_stand (NotDurable at) = true
+may_stand (Died at) = true
+may_stand Cut = true
+may_stand other = false
+
 module _ (b : Basis) (c : Chapter) where
   -- the edition that the client was shown before
   abbrev pub shown_before : List AnswerLineSeen → AnswerLineSeen → ℕ
@@ -89,14 +97,6 @@ module _ (b : Basis) (c : Chapter) where
   -- the error of a client's call, or of an actor's
   abbrev pub IsCaused : List AnswerLineSeen → AnswerLineSeen → Type 0
   IsCaused before line = MatchOption line.poster (IsAsked c line.call (HasCauseBy before line)) (HasActorCause before line)
-
-  -- of these calls an Edit or a Same may stand
-  abbrev pub may_stand : AnswerSeen → Bool
-  may_stand (Updated edition) = true
-  may_stand (NotDurable at) = true
-  may_stand (Died at) = true
-  may_stand Cut = true
-  may_stand other = false
 
   -- such a call was answered, and the entry carries its edit
   pub record IsOwnEdit (e : PrefEntry) : Type 0 where

@@ -1,5 +1,5 @@
 -- That nodes die and devices fail only as it was planned.
-use Rattle.std.specs.Prelude.{◌≡◌, ◌≤◌, ℕ, ◌&&◌, Bool, true, false, List, [], ◌∷◌, length, count_by, Contains, None, if◌then◌else◌}
+use Rattle.std.specs.Prelude.{◌≡◌, ◌≤◌, ℕ, ◌&&◌, Bool, true, false, List, length, count_by, Contains, None}
 use Rattle.std.specs.List.{list_any}
 use Rattle.store_traits.specs.declared.ids.CallId.{CallId}
 use Rattle.store_traits.specs.declared.step.Step.{Step}
@@ -18,10 +18,10 @@ use Rattle.shelf.specs.WritingSteps.{is_writing}
 use Rattle.script_lang.specs.Chronicle.{Chapter}
 use Rattle.shelf.specs.Each.{Each}
 
--- the script plans this death of the call, at a step of writing exactly where the call had raised the version last
-pub record IsPlanned (c : Chapter) (before : List PrefEntry) (call : CallId) : Type 0 where
+-- a death of the call is planned, at a step of writing exactly where the call had raised the version last
+pub record IsPlanned (planned : List PlannedDeath) (before : List PrefEntry) (call : CallId) : Type 0 where
   pub death : PlannedDeath
-  pub planned : Contains c.plan.deaths death
+  pub is : Contains planned death
   pub own : death.call ≡ call
   pub step : is_writing death.step ≡ ends_in_raise call false before
 
@@ -67,5 +67,5 @@ pub record FailsAsPlanned (c : Chapter) : Type 0 where
 
 -- a lawful call dies once, so no planned death is two
 pub record DiesAsPlanned (c : Chapter) : Type 0 where
-  pub deaths : Each (λ before e. is_death e.kind ≡ true → IsPlanned c before e.who) c.told.entries
+  pub deaths : Each (λ before e. is_death e.kind ≡ true → IsPlanned c.plan.deaths before e.who) c.told.entries
   pub spared : Each (λ before line. Spares c line.call line.answer) c.told.answers

@@ -1,13 +1,16 @@
--- What holds of each script: of its names, its ids, its numbers, its limits and its order.
-use Rattle.std.specs.Prelude.{ℕ, ◌≡◌, ◌<◌, ◌≤◌, List, [], ◌∷◌, length, All, Contains, Some, None, false, slice_get}
-use Rattle.prefs_edit.specs.Edit.{IsEdit}
+-- What is asked of each script: of its names, its ids, its numbers and its limits; and which scripts are built so far.
+use Rattle.std.specs.Prelude.{ℕ, ◌≡◌, ◌<◌, ◌≤◌, false, List, [], ◌∷◌, length, sum_by, All, Contains, Some, slice_get}
 use Rattle.store_traits.specs.declared.ids.NodeId.{NodeId}
+use Rattle.prefs_edit.specs.Edit.{IsEdit}
+use Rattle.prefs_text.specs.declared.names.Names.{Names}
 use Rattle.script_words.specs.Names.{IsName, reserved}
+use Rattle.shelf.specs.declared.store.PlannedDeath.{PlannedDeath}
 use Rattle.script_lang.specs.declared.run_line.Act.{Act}
-use Rattle.script_lang.specs.declared.run_line.Act.TheVariants.{Update, Go}
+use Rattle.script_lang.specs.declared.run_line.Act.TheVariants.{Update, Post, Restart, Go}
 use Rattle.script_lang.specs.declared.run_line.RunLine.{RunLine}
 use Rattle.script_lang.specs.declared.script.Script.{Script}
 use Rattle.script_lang.specs.declared.session_plan.SessionPlan.{SessionPlan}
+use Rattle.script_lang.specs.SessionPlans.{StopBetween, plain}
 
 -- the word can name a node or a client
 pub record CanName (word : List ℕ) : Type 0 where
@@ -33,37 +36,58 @@ pub record KeepsHomes (nodes clients : List (List ℕ)) (homes : List NodeId) : 
   pub one_each : length homes ≡ length clients
   pub declared : All (λ home. home.0 < length nodes) homes
 
--- the acts of which lines are understood so far
-abbrev pub KeepsAct : Act → Type 0
-KeepsAct (Update edit) = IsEdit edit
-KeepsAct (Go steps) = steps ≤ 1000
-KeepsAct _ = ⊥
+-- what a line may ask of its client
+abbrev pub KeepsAct : (nodes : List (List ℕ)) → Act → Type 0
+KeepsAct nodes (Update edit) = IsEdit edit
+KeepsAct nodes (Post edit) = IsEdit edit
+KeepsAct nodes (Restart node) = node.0 < length nodes
+KeepsAct nodes (Go steps) = steps ≤ 1000
+KeepsAct nodes other = Unit {0}
 
-pub record KeepsRun (clients : List (List ℕ)) (line : RunLine) : Type 0 where
-  pub declared : line.client.0 < length clients
-  pub act : KeepsAct line.act
-
-pub record KeepsRuns (clients : List (List ℕ)) (lines : List RunLine) : Type 0 where
-  pub each : All (KeepsRun clients) lines
-  pub few : length lines ≤ 100000
+pub record KeepsRun (names : Names) (line : RunLine) : Type 0 where
+  pub declared : line.client.0 < length names.clients
+  pub act : KeepsAct names.nodes line.act
 
 pub record KeepsEntries (entries : ℕ) : Type 0 where
   pub some : 1 ≤ entries
   pub few : entries ≤ 100000
 
+-- the death is of a call of a client, on its node
+pub record KeepsDeath (homes : List NodeId) (death : PlannedDeath) : Type 0 where
+  pub home : slice_get homes death.call.client.0 ≡ Some death.call.node
+  pub first : 1 ≤ death.call.number
+
+pub record KeepsPlan (script : Script) (plan : SessionPlan) : Type 0 where
+  pub faults : All (λ planned. 1 ≤ planned.number) plan.folder_faults
+  pub deaths : All (KeepsDeath script.homes) plan.deaths
+  pub runs : All (KeepsRun script.names) plan.lines
+
+pub record KeepsSessions (script : Script) : Type 0 where
+  pub plans : All (KeepsPlan script) script.sessions
+  pub stops : StopBetween script.sessions
+  pub few : sum_by (λ plan. length plan.lines) script.sessions ≤ 100000
+
+-- the acts that are built so far
+abbrev pub IsBuiltAct : Act → Type 0
+IsBuiltAct (Update edit) = Unit {0}
+IsBuiltAct (Go steps) = Unit {0}
+IsBuiltAct other = ⊥
+
 -- a session in which nothing is planned to fail: no line says so yet
 abbrev pub IsPlain : SessionPlan → Type 0
-IsPlain plan = plan ≡ record { folder_faults = []; fuse = None; deaths = []; lines = plan.lines; stop = None }
+IsPlain plan = plan ≡ plain plan.lines
 
-pub record KeepsSessions (clients : List (List ℕ)) (sessions : List SessionPlan) : Type 0 where
+-- what lines say so far: one session, in which all goes well
+pub record IsBuilt (script : Script) : Type 0 where
   pub plan : SessionPlan
-  pub only : sessions ≡ plan ∷ []
+  pub only : script.sessions ≡ plan ∷ []
   pub plain : IsPlain plan
-  pub runs : KeepsRuns clients plan.lines
+  pub acts : All (λ line. IsBuiltAct line.act) plan.lines
+  pub unreplaced : script.start.replace ≡ false
 
 pub record Keeps (script : Script) : Type 0 where
   pub names : KeepsNames script.names.nodes script.names.clients
   pub homes : KeepsHomes script.names.nodes script.names.clients script.homes
   pub entries : KeepsEntries script.start.entries
-  pub unreplaced : script.start.replace ≡ false
-  pub sessions : KeepsSessions script.names.clients script.sessions
+  pub sessions : KeepsSessions script
+  pub built : IsBuilt script

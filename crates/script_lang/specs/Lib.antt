@@ -22,6 +22,7 @@ pub mod NameTable
 pub mod Reading
 pub mod Rows
 pub mod Rules
+pub mod SessionPlans
 pub mod Shown
 pub mod Spelling
 pub mod TranscriptText

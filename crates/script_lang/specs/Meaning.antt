@@ -1,5 +1,5 @@
 -- What lines say, and which bytes are a script.
-use Rattle.std.specs.Prelude.{ℕ, ◌≡◌, ◌+◌, ◌⊎◌, List, [], ◌∷◌, ◌++◌, length, false, None, unwrap_or}
+use Rattle.std.specs.Prelude.{ℕ, ◌≡◌, ◌+◌, ◌⊎◌, List, [], ◌∷◌, ◌++◌, length, false, unwrap_or}
 use Rattle.folder_disk.specs.declared.main_read.MainRead.TheVariants.{Absent}
 use Rattle.script_lang.specs.declared.draft.Draft.{Draft}
 use Rattle.script_lang.specs.declared.line.Line.{Line}
@@ -11,6 +11,7 @@ use Rattle.script_lang.specs.declared.script_error.ScriptFault.TheVariants.{NoMe
 use Rattle.script_lang.specs.Draft.{draft_of}
 use Rattle.script_lang.specs.Faults.{Breaks, IsLeast}
 use Rattle.script_lang.specs.Lines.{lines_of}
+use Rattle.script_lang.specs.SessionPlans.{plain}
 use Rattle.script_lang.specs.Spelling.{LineSpells}
 
 -- the line with this number, behind lines that made the draft: it is spelled so, and breaks no rule
@@ -30,7 +31,7 @@ script_of draft = record {
   names = record { nodes = draft.nodes; clients = draft.clients };
   homes = draft.homes;
   start = record { file = unwrap_or draft.file Absent; entries = unwrap_or draft.entries 100000; replace = false };
-  sessions = record { folder_faults = []; fuse = None; deaths = []; lines = draft.lines; stop = None } ∷ [];
+  sessions = plain draft.lines ∷ [];
 }
 
 -- the bytes are this script

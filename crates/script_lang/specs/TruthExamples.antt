@@ -31,6 +31,7 @@ use Rattle.script_lang.specs.declared.script.Script.{Script}
 use Rattle.script_lang.specs.declared.session_plan.SessionPlan.{SessionPlan}
 use Rattle.script_lang.specs.declared.transcript.Transcript.{Transcript}
 use Rattle.script_lang.specs.Chronicle.{Basis}
+use Rattle.script_lang.specs.SessionPlans.{plain}
 use Rattle.script_lang.specs.TranscriptView.{SessionSeen}
 
 abbrev pub number_of : PrefValue → ℕ
@@ -69,9 +70,6 @@ asks call edit = record { client = call.client; act = Update edit }
 abbrev pub goes : CallId → ℕ → RunLine
 goes call steps = record { client = call.client; act = Go steps }
 
-abbrev pub plan : List RunLine → SessionPlan
-plan lines = record { folder_faults = []; fuse = None; deaths = []; lines = lines; stop = None }
-
 -- a script of one session
 abbrev pub script : MainRead → SessionPlan → Script
 script file plan = record { names = names; homes = record { 0 = 0 } ∷ record { 0 = 1 } ∷ []; start = record { file = file; entries = 100000; replace = false }; sessions = plan ∷ [] }
@@ -91,7 +89,7 @@ told session = record { names = names; sessions = session ∷ [] }
 
 -- two nodes add 1, one after the other
 abbrev pub two_nodes_plan : SessionPlan
-two_nodes_plan = plan (asks (a 1) (add (codes "x")) ∷ asks (b 1) (add (codes "x")) ∷ goes (a 1) 5 ∷ goes (b 1) 1 ∷ [])
+two_nodes_plan = plain (asks (a 1) (add (codes "x")) ∷ asks (b 1) (add (codes "x")) ∷ goes (a 1) 5 ∷ goes (b 1) 1 ∷ [])
 
 abbrev pub two_nodes : Script
 two_nodes = script main.Absent two_nodes_plan
@@ -118,7 +116,7 @@ death_and_stop_plan =
 
 -- behind the stop the second node reads
 abbrev pub read_plan : SessionPlan
-read_plan = plan (record { client = (b 2).client; act = Read } ∷ [])
+read_plan = plain (record { client = (b 2).client; act = Read } ∷ [])
 
 abbrev pub death_and_stop : Script
 death_and_stop = record (script main.Absent death_and_stop_plan) { sessions = death_and_stop_plan ∷ read_plan ∷ [] }
@@ -161,7 +159,7 @@ did call poster answer = record { call = call; poster = Some poster; answer = an
 
 -- a client posts two edits to the actor of its node
 abbrev pub two_posts_plan : SessionPlan
-two_posts_plan = plan (record { client = (a 1).client; act = Post (add (codes "x")) } ∷ record { client = (a 2).client; act = Post (set (codes "x") 5) } ∷ [])
+two_posts_plan = plain (record { client = (a 1).client; act = Post (add (codes "x")) } ∷ record { client = (a 2).client; act = Post (set (codes "x") 5) } ∷ [])
 
 abbrev pub two_posts : Script
 two_posts = script main.Absent two_posts_plan
@@ -177,7 +175,7 @@ two_posts_told =
 
 -- the folder is not synced behind the rename, and the value stands
 abbrev pub sync_failed_plan : SessionPlan
-sync_failed_plan = record (plan (asks (a 1) (set (codes "k") 1) ∷ record { client = (a 2).client; act = Read } ∷ [])) { folder_faults = record { call = SyncFolder; number = 1 } ∷ [] }
+sync_failed_plan = record (plain (asks (a 1) (set (codes "k") 1) ∷ record { client = (a 2).client; act = Read } ∷ [])) { folder_faults = record { call = SyncFolder; number = 1 } ∷ [] }
 
 abbrev pub sync_failed : Script
 sync_failed = script main.Absent sync_failed_plan
@@ -194,7 +192,7 @@ sync_failed_told =
 -- a node dies before its first update, is brought back, and updates
 abbrev pub restart_plan : SessionPlan
 restart_plan =
-    record (plan (asks (a 1) (set (codes "k") 1) ∷ record { client = (b 1).client; act = Restart (a 1).node } ∷ asks (a 2) (set (codes "k") 2) ∷ goes (a 1) 5 ∷ goes (b 1) 1 ∷ [])) {
+    record (plain (asks (a 1) (set (codes "k") 1) ∷ record { client = (b 1).client; act = Restart (a 1).node } ∷ asks (a 2) (set (codes "k") 2) ∷ goes (a 1) 5 ∷ goes (b 1) 1 ∷ [])) {
       deaths = record { call = a 1; step = U1 } ∷ [];
     }
 
@@ -217,7 +215,7 @@ restart_told =
 -- a flow gives a value once
 abbrev pub flows_plan : SessionPlan
 flows_plan =
-    plan
+    plain
     (record { client = (a 1).client; act = Flow }
     ∷ record { client = (a 2).client; act = Flow }
     ∷ asks (a 3) (set (codes "k") 1)
@@ -238,21 +236,21 @@ flows_told =
 
 -- two nodes set two numbers
 abbrev pub two_sets_plan : SessionPlan
-two_sets_plan = plan (asks (a 1) (set (codes "x") 1) ∷ asks (b 1) (set (codes "x") 2) ∷ [])
+two_sets_plan = plain (asks (a 1) (set (codes "x") 1) ∷ asks (b 1) (set (codes "x") 2) ∷ [])
 
 abbrev pub two_sets : Script
 two_sets = script main.Absent two_sets_plan
 
 -- a client updates, and reads
 abbrev pub update_then_read_plan : SessionPlan
-update_then_read_plan = plan (asks (a 1) (add (codes "x")) ∷ record { client = (a 2).client; act = Read } ∷ [])
+update_then_read_plan = plain (asks (a 1) (add (codes "x")) ∷ record { client = (a 2).client; act = Read } ∷ [])
 
 abbrev pub update_then_read : Script
 update_then_read = script main.Absent update_then_read_plan
 
 -- what is there already is set
 abbrev pub equal_value_plan : SessionPlan
-equal_value_plan = plan (asks (a 1) (set (codes "k") 1) ∷ [])
+equal_value_plan = plain (asks (a 1) (set (codes "k") 1) ∷ [])
 
 abbrev pub equal_value : Script
 equal_value = script (main.Bytes (encoded (holds (codes "k") 1))) equal_value_plan
@@ -268,7 +266,7 @@ equal_value_told =
 
 -- the greatest number is set, and 1 more is refused
 abbrev pub greatest_plan : SessionPlan
-greatest_plan = plan (asks (a 1) (set (codes "n") 2147483647) ∷ asks (a 2) (add (codes "n")) ∷ [])
+greatest_plan = plain (asks (a 1) (set (codes "n") 2147483647) ∷ asks (a 2) (add (codes "n")) ∷ [])
 
 abbrev pub greatest : Script
 greatest = script main.Absent greatest_plan

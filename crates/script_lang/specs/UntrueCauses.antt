@@ -10,8 +10,9 @@ use Rattle.prefs_text.specs.declared.seen.AnswerSeen.TheVariants.{Updated, Refus
 use Rattle.script_lang.specs.declared.file_seen.FileSeen.TheVariants.{Absent, Bytes}
 use Rattle.script_lang.specs.declared.run_line.Act.TheVariants.{Read, Restart}
 use Rattle.script_lang.specs.declared.script.Script.{Script}
+use Rattle.script_lang.specs.SessionPlans.{plain}
 use Rattle.script_lang.specs.TranscriptView.{SessionSeen}
-use Rattle.script_lang.specs.TruthExamples.{a, actor, add, answered, asks, b, death_told, did, encoded, entry, greatest_told, holds, plan, restart_told, script, set, sync_failed_told, two_nodes_told, two_posts_told, update}
+use Rattle.script_lang.specs.TruthExamples.{a, actor, add, answered, asks, b, death_told, did, encoded, entry, greatest_told, holds, restart_told, script, set, sync_failed_told, two_nodes_told, two_posts_told, update}
 
 -- the second of two updates is answered so, and its node did no more than begin
 abbrev pub second_answered : AnswerSeen → SessionSeen
@@ -138,7 +139,7 @@ full_at_first =
 abbrev pub late_restart : Script
 late_restart =
     script main.Absent
-    (record (plan (asks (a 1) (set (codes "k") 1) ∷ asks (b 1) (set (codes "k") 2) ∷ record { client = (b 2).client; act = Restart (a 1).node } ∷ [])) { deaths = record { call = a 1; step = U1 } ∷ [] })
+    (record (plain (asks (a 1) (set (codes "k") 1) ∷ asks (b 1) (set (codes "k") 2) ∷ record { client = (b 2).client; act = Restart (a 1).node } ∷ [])) { deaths = record { call = a 1; step = U1 } ∷ [] })
 
 -- the node is said to live, which it did before that update alone
 abbrev pub restart_answered : AnswerSeen → SessionSeen
@@ -157,7 +158,7 @@ not_dead = restart_answered NotDead
 abbrev pub late_restart_read : Script
 late_restart_read =
     script main.Absent
-    (record (plan (asks (a 1) (set (codes "k") 1) ∷ record { client = (b 1).client; act = Read } ∷ record { client = (b 2).client; act = Restart (a 1).node } ∷ [])) { deaths = record { call = a 1; step = U1 } ∷ [] })
+    (record (plain (asks (a 1) (set (codes "k") 1) ∷ record { client = (b 1).client; act = Read } ∷ record { client = (b 2).client; act = Restart (a 1).node } ∷ [])) { deaths = record { call = a 1; step = U1 } ∷ [] })
 
 abbrev pub not_dead_read : SessionSeen
 not_dead_read =

@@ -3,34 +3,41 @@
 //! `byte_io` for the sink. Its contracts above are those of `parse_script` and of `write_transcript`.
 #![tactic(auto)]
 
-mod answer_list;
+// what a script asks for
+mod mode;
+mod run_line;
+mod script;
+mod series;
+mod session_plan;
+mod start;
+
+// which bytes are a script, and how they are read
 mod draft;
-mod file_seen;
-mod laws;
 mod line;
 mod line_word;
 mod lines;
-mod mode;
 mod name_rows;
 mod name_table;
 mod parse;
 mod reading;
-mod run_line;
 mod run_rows;
-mod script;
 mod script_error;
-mod series;
+mod start_rows;
+
+// what is told of a run, and its text
+mod answer_list;
+mod file_seen;
 mod session;
 mod session_list;
-mod session_plan;
-mod start;
-mod start_rows;
 mod transcript;
+mod write_text_error;
+mod writing;
+
+// what holds of all scripts; which transcripts tell the truth of theirs, and which do not
+mod laws;
 mod truth_examples;
 mod truth_tests;
 mod untrue_examples;
-mod write_text_error;
-mod writing;
 
 pub use answer_list::AnswerList;
 pub use draft::Draft;
