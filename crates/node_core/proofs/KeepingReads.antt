@@ -39,7 +39,7 @@ module _ {V T M : Type 0} (r : Rules V T) (s : Store V M) where
       })
 
   -- what a change makes is the new value
-  change_makes : (edit : T) {value : BaseSeen V} (c : ChangesValue r.meanings.after s.handler value edit) → value_after r.meanings.after value (Edit edit) ≡ Held c.new
+  pub change_makes : (edit : T) {value : BaseSeen V} (c : ChangesValue r.meanings.after s.handler value edit) → value_after r.meanings.after value (Edit edit) ≡ Held c.new
   unfolding value_after edited applied_or
   change_makes edit c = rw (c.held, c.makes) refl
 

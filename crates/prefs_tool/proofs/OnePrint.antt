@@ -11,7 +11,7 @@ use Rattle.script_lang.specs.declared.script.Script.{Script}
 use Rattle.script_lang.proofs.ScriptLaws.{one_script}
 use Rattle.replay_run.specs.PrefsBasis.{prefs_basis}
 use Rattle.replay_run.specs.ScriptRun.{Runs}
-use Rattle.replay_run.proofs.OneTranscript.{runs_once}
+use Rattle.replay_run.proofs.unique.OneTranscript.{runs_once}
 use Rattle.prefs_tool.specs.Replaying.{Printed}
 
 text_set : IsSet (List ℕ)

@@ -1,52 +1,52 @@
--- What one client does.
-use Rattle.std.specs.Prelude.{◌≡◌, ◌⊎◌, ℕ, ◌+◌, true, false, ◌∷◌, ◌++◌, [], Option, Some, None, Result}
-use Rattle.std.specs.Borrow.{Bor}
+-- What one client's step asks for, and what it is made of.
+use Rattle.std.specs.Prelude.{◌≡◌, ◌⊎◌, ℕ, true, false, [], Some, None, length}
+use Rattle.store_traits.specs.declared.codec.Codec as codec_trait
 use Rattle.store_traits.specs.declared.ids.CallId.{CallId}
-use Rattle.store_traits.specs.declared.update_error.UpdateError.{UpdateError}
-use Rattle.shelf.specs.declared.store.Store.{Store}
+use Rattle.store_traits.specs.declared.transform.Transform as transform_trait
+use Rattle.folder_disk.specs.declared.folder.Folder as folder_trait
+use Rattle.folder_disk.specs.declared.mem_folder.MemFolder.{MemFolder}
+use Rattle.prefs_proto.specs.declared.prefs_codec.PrefsCodec.{PrefsCodec}
+use Rattle.prefs_text.specs.AnswerView.{line_seen}
+use Rattle.prefs_text.specs.declared.answer_line.AnswerLine.{AnswerLine}
+use Rattle.script_lang.specs.declared.run_line.Act.TheVariants as act
 use Rattle.shelf.specs.AddsNode.{is_among}
-use Rattle.step_table.specs.Calls.{Update, First}
-use Rattle.shelf.specs.Rules.{Rules}
-use Rattle.step_table.specs.World.{World}
-use Rattle.node_core.specs.Views.{state_seen}
+use Rattle.shelf.specs.declared.shelf.Shelf.{Shelf}
+use Rattle.shelf.specs.ShelfSeen.{shelf_seen}
+use Rattle.step_table.specs.Calls.{Reply}
+use Rattle.step_table.specs.declared.progress.Progress.TheVariants.{Ended}
 use Rattle.replay_run.specs.declared.client.Client as own
-use Rattle.replay_run.specs.ClientKeeps.{KeepsRunning}
-use Rattle.replay_run.specs.Scene.{Client, call_of}
-use Rattle.replay_run.specs.StageView.{Change, Running}
-use Rattle.replay_run.specs.Step.{Acts, at_work, has_work}
+use Rattle.replay_run.specs.declared.prefs_parts.PrefsParts.{PrefsParts}
+use Rattle.replay_run.specs.Answering.{behind_turn, reply_told}
+use Rattle.replay_run.specs.ClientInvariant.{CallInvariant}
+use Rattle.replay_run.specs.RunState.{act_now, call_at, call_now}
+use Rattle.replay_run.specs.SessionView.{EquippedIn, Running, client_seen, rules_in, shared_in, store_in, update_seen}
+use Rattle.replay_run.specs.Settings.{Change, PrefCall, Value}
 
--- the next call begins, for this edit
-pub record BeginsCall (old : own.Client) (edit : Change) (new : own.Client) : Type 0 where
-  pub call : Running
-  pub state : state_seen call.state ≡ First (Update edit)
-  pub origin : call.origin ≡ record { call = record { node = old.node; client = old.id; number = old.begun + 1 }; since = None }
-  pub initialised : call.initialised ≡ false
-  pub now : new ≡ record old { begun = old.begun + 1; running = Some call }
+-- the line tells this reply to a client's call
+pub record AnswersBy (id : CallId) (reply : Reply Value) (line : AnswerLine) : Type 0 where
+  pub call : line.call ≡ id
+  pub poster : line.poster ≡ None
+  pub told : reply_told reply ≡ Some (line_seen line).answer
 
-abbrev pub BeginsBy : own.Client → Option Running → Option (Bor Change) → own.Client → Type 0
-BeginsBy old None (Some edit) new = BeginsCall old edit.now new
-BeginsBy old running edit new = new ≡ old
+-- the call that runs, or a new one, before its next turn
+pub record IsItsCall (old : own.Client) (edit : Change) (call : Running) : Type 0 where
+  pub seen : update_seen call ≡ call_now (client_seen old) edit
+  pub begun : (old.running ≡ Some call) ⊎ ((old.running ≡ None) × (call.initialised ≡ false))
 
--- the last call that has begun has this answer
-pub record HasAnswer (old : own.Client) (answer : Result ℕ UpdateError) (new : own.Client) : Type 0 where
-  pub items : new.answered.items ≡ old.answered.items ++ record { call = record { node = old.node; client = old.id; number = old.begun }; answer = answer } ∷ []
-  pub now : new ≡ record old { running = None; answered = new.answered }
+-- its next answer tells this reply
+abbrev pub IsAnswered : own.Client → Reply Value → own.Client → Type 0
+IsAnswered old reply new = (call : PrefCall) → call.id ≡ call_at (client_seen old) (length (client_seen old).answered) → behind_turn (client_seen old) call (Ended reply) ≡ Some (client_seen new)
 
-module _ {V T : Type 0} where
-  -- neither the call that runs nor the next one
-  abbrev pub IsOther : Client V T → CallId → Type 0
-  IsOther client other = (number : ℕ) → other ≡ call_of client number → ⊥
+module _ {c : codec_trait.Ghosts PrefsCodec Value} {t : transform_trait.Ghosts Change Value} {f : folder_trait.Ghosts MemFolder} where
+  -- the call that the client is at may take its turn
+  pub record MayGo (client : own.Client) (shelf : Shelf (PrefsParts MemFolder) PrefsCodec Change MemFolder Value c t f) : Type 0 where
+    pub node : is_among client.node (store_in shelf).nodes ≡ true
+    pub call : (edit : Change) → act_now (client_seen client) ≡ Some (act.Update edit) → CallInvariant (rules_in shelf) (store_in shelf) (client_seen client) (shared_in shelf).world (call_now (client_seen client) edit)
+    pub equipped : EquippedIn shelf client
+    -- no call of the folder is to fail
+    pub planned : (shared_in shelf).world.tally.due.planned ≡ []
+    pub fuses : (shared_in shelf).world.tally.due.fuses ≡ []
 
-module _ {V T M : Type 0} (r : Rules V T) (s : Store V M) where
-  -- what the client is at work on may take its turn
-  pub record MayGo (client : Client V T) (world : World V T) : Type 0 where
-    pub node : is_among client.node s.nodes ≡ true
-    pub keeps : KeepsRunning r s (at_work client) world (at_work client).running
-
-  -- the call that runs takes a turn, if one does
-  abbrev pub TakesTurn : Client V T → World V T → Client V T → World V T → Type 0
-  TakesTurn client world client_after world_after = Acts r s client world client_after world_after ⊎ ((client.running ≡ None) × (client_after ≡ client) × (world_after ≡ world))
-
-  -- the client does a step if it has something to do
-  abbrev pub GoesAlone : Client V T → World V T → Client V T → World V T → Type 0
-  GoesAlone client world client_after world_after = Acts r s client world client_after world_after ⊎ ((has_work client ≡ false) × (client_after ≡ client) × (world_after ≡ world))
+  -- where a call of another client owns the lock, all of the shelf stays
+  abbrev pub Spares : own.Client → (old new : Shelf (PrefsParts MemFolder) PrefsCodec Change MemFolder Value c t f) → Type 0
+  Spares client old new = (other : CallId) → (shelf_seen old).owner ≡ Some other → ((place : ℕ) → other ≡ call_at (client_seen client) place → ⊥) → shelf_seen new ≡ shelf_seen old

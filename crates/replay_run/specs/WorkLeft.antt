@@ -1,38 +1,43 @@
 -- How many turns the clients have left at most, where none of them is blocked.
-use Rattle.std.specs.Prelude.{◌≡◌, ◌⊎◌, ◌≤◌, ◌<◌, ℕ, ◌+◌, ◌-◌, ◌*◌, Bool, false, Option, Some, None, length, slice_get, sum_by}
+use Rattle.std.specs.Prelude.{◌≡◌, ◌⊎◌, ◌≤◌, ◌<◌, ℕ, ◌+◌, ◌-◌, ◌*◌, false, Option, Some, length, slice_get, sum_by}
 use Rattle.store_traits.specs.declared.ids.CallId.{CallId}
-use Rattle.step_table.specs.Calls.{Call}
+use Rattle.hist_journal.specs.Nodes.{is_ready}
 use Rattle.node_core.specs.Phases.{is_holding}
 use Rattle.node_core.specs.StepsLeft.{steps_left}
-use Rattle.replay_run.specs.Scene.{Client, Scene}
-use Rattle.replay_run.specs.Step.{has_work}
+use Rattle.script_lang.specs.declared.run_line.Act.{Act}
+use Rattle.script_lang.specs.declared.run_line.Act.TheVariants as act
+use Rattle.replay_run.specs.RunState.{Client, RunState, act_now, call_now, is_busy}
+use Rattle.replay_run.specs.Settings.{PrefCall, PrefWorld}
 
 -- `limit` is how many bytes main may have
-module _ {V T : Type 0} (limit : ℕ) where
-  abbrev pub call_left : Bool → Option (Call V T) → ℕ
-  call_left initialised None = 0
-  call_left initialised (Some call) = steps_left limit initialised call.at
+module _ (limit : ℕ) where
+  module _ (w : PrefWorld) where
+    -- those of the call that the client is at
+    abbrev pub call_left : Option Act → Client → ℕ
+    call_left (Some (act.Update edit)) client = steps_left limit (is_ready client.node w.history) (call_now client edit).at
+    call_left other client = 0
 
-  -- a call that has not begun has as many as one at its first step
-  abbrev pub client_left : Client V T → ℕ
-  client_left client = call_left client.initialised client.running + (length client.edits - client.begun) * (limit + 11)
+    -- a call behind it has as many as one at its first step
+    abbrev pub client_left : Client → ℕ
+    client_left client = call_left (act_now client) client + (length client.asked - length client.answered - 1) * (limit + 11)
 
-  abbrev pub work_left : Scene V T → ℕ
-  work_left scene = sum_by client_left scene.clients
+  abbrev pub work_left : RunState → ℕ
+  work_left state = sum_by (client_left state.shared.world) state.clients
 
-  -- another owns the lock
-  pub record Waits (scene : Scene V T) (client : Client V T) : Type 0 where
-    pub owner : CallId
-    pub owned : scene.world.owner ≡ Some owner
-    pub holds_none : (call : Call V T) → client.running ≡ Some call → is_holding call.at ≡ false
+-- another owns the lock
+pub record Waits (state : RunState) (client : Client) : Type 0 where
+  pub owner : CallId
+  pub owned : state.shared.world.owner ≡ Some owner
+  pub holds_none : (call : PrefCall) → client.running ≡ Some call → is_holding call.at ≡ false
 
-  -- in a round from this scene, so many clients have had their step, and nothing came of it
-  pub record IsStill (start : Scene V T) (place : ℕ) (now : Scene V T) : Type 0 where
-    pub world : now.world ≡ start.world
-    pub work : work_left now ≡ work_left start
+module _ (limit : ℕ) (start : RunState) where
+  -- in a round from this state, so many clients have had their step, and nothing came of it
+  pub record IsStill (place : ℕ) (now : RunState) : Type 0 where
+    pub world : now.shared.world ≡ start.shared.world
+    pub work : work_left limit now ≤ work_left limit start
     pub others : (other : ℕ) → place ≤ other → slice_get now.clients other ≡ slice_get start.clients other
-    pub waited : (other : ℕ) (client : Client V T) → other < place → slice_get start.clients other ≡ Some client → (has_work client ≡ false) ⊎ Waits start client
+    pub waited : (other : ℕ) (client : Client) → other < place → slice_get start.clients other ≡ Some client → (is_busy client ≡ false) ⊎ Waits start client
 
   -- what a round has come to
-  abbrev pub RoundSoFar : Scene V T → ℕ → Scene V T → Type 0
-  RoundSoFar start place now = (work_left now < work_left start) ⊎ IsStill start place now
+  abbrev pub RoundSoFar : ℕ → RunState → Type 0
+  RoundSoFar place now = (work_left limit now < work_left limit start) ⊎ IsStill place now

@@ -3,19 +3,18 @@
 //! What a run of a script is stands in its specs; `replay` runs one.
 #![tactic(auto)]
 
-mod answered;
+mod answering;
 mod client;
 mod laws;
 mod main_file;
 mod names;
 mod prefs_parts;
 mod replaying;
-mod run_examples;
-mod stage;
+mod running_session;
 
 pub use laws::{
-    runs_are_good, runs_start_as_sessions_begin, scripts_have_one_run, truth_has_tests_of_settings,
+    runs_are_good, runs_start_as_sessions_begin, scripts_have_a_run, scripts_have_one_run,
+    truth_has_tests_of_settings,
 };
 pub use prefs_parts::PrefsParts;
 pub use replaying::replay;
-pub use run_examples::runs_are_as_written;

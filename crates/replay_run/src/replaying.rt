@@ -1,13 +1,13 @@
 ghost use Rattle.std.specs.Prelude.{◌≡◌, ◌∷◌, [], IfOk};
 ghost use Rattle.script_lang.specs.Keeps.{Keeps};
-ghost use Rattle.script_lang.specs.TranscriptText.{HasNames, SessionHasNames};
+ghost use Rattle.script_lang.specs.TranscriptText.{HasNames};
 ghost use Rattle.script_lang.specs.TranscriptView.{session_seen};
 ghost use Rattle.replay_run.specs.PrefsBasis.{prefs_basis};
 ghost use Rattle.replay_run.specs.Replays.{Replays};
 ghost use Rattle.replay_run.specs.SessionPlayed.{IsPlayedWell};
 
 use crate::names::copy_of_names;
-use crate::stage::Stage;
+use crate::running_session::RunningSession;
 use script_lang::{Script, Session, SessionList, SessionPlan, Transcript};
 use std::alloc::{AllocError, Global};
 
@@ -32,11 +32,10 @@ pub fn replay(alloc: Global, script: &Script) -> Result<Transcript, AllocError>
 fn play(alloc: Global, script: &Script, plan: &SessionPlan) -> Result<Session, AllocError>
     requires keeps { Keeps script.now }
     requires plan { script.now.sessions ≡ plan.now ∷ [] }
-    ensures played { IfOk result (λ session. ∥ IsPlayedWell prefs_basis script.now plan.now (session_seen session) ∥₁) }
-    ensures names { IfOk result (λ session. SessionHasNames script.now.names (session_seen session)) }
+    ensures { IfOk result (λ session. ∥ IsPlayedWell prefs_basis script.now plan.now (session_seen session) ∥₁) }
 {
-    let mut stage = Stage::open(alloc, script)?;
-    stage.follow(alloc, plan.lines.as_slice())?;
-    stage.finish(alloc)?;
-    stage.close(alloc)
+    let mut session = RunningSession::open(alloc, script)?;
+    session.follow(alloc, plan.lines.as_slice())?;
+    session.finish(alloc)?;
+    session.close(alloc)
 }

@@ -35,7 +35,7 @@ module _ (b : Basis) (script : Script) (plan : SessionPlan) (told : SessionSeen)
   only = chapter_of b script (first_beginning script) [] plan told
 
   module _ (transcript : Transcript) (names : transcript.names ≡ script.names) (planned : script.sessions ≡ plan ∷ []) (unstopped : plan.stop ≡ None) (tells : transcript.sessions ≡ told ∷ []) where
-    one_chapter : chapters_of b Scripted script transcript ≡ only ∷ []
+    pub one_chapter : chapters_of b Scripted script transcript ≡ only ∷ []
     unfolding chronicle
     one_chapter = rw (planned, tells) refl
 

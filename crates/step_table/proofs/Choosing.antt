@@ -1,5 +1,5 @@
 -- Each line of the table is what the function chooses, and given what is met it chooses one effect.
-use Rattle.std.proofs.Common.{◌≡◌, ◌≢◌, ◌<◌, ◌≤◌, ◌⊎◌, inl, inr, ◌&&◌, ℕ, nat_lt, Bool, true, false, not, List, length, subst, Option, Some, None, IsTrue, refl, sym, ap, ◌∙◌, arith, if◌then◌else◌}
+use Rattle.std.proofs.Common.{◌≡◌, ◌≢◌, ◌<◌, ◌≤◌, ◌⊎◌, inl, inr, ◌&&◌, ℕ, nat_lt, Bool, true, false, not, List, length, Option, Some, None, IsTrue, refl, sym, ap, ◌∙◌, arith, if◌then◌else◌}
 use Rattle.std.proofs.lemmas.Bool.Decides.{nat_tests}
 use Rattle.store_traits.specs.declared.applied.Applied.{Applied}
 use Rattle.store_traits.specs.declared.applied.Applied.TheVariants as applied
@@ -157,12 +157,11 @@ module _ {V T M : Type 0} (r : Rules V T) (s : Store V M) (w : World V T) (call 
   row_chosen sync_fails short = chose (at_hand true) tt refl refl
   row_chosen other short = never (sym short)
 
--- by the rules of two stores of the same limits, a told folder leaves one effect, unless memory lacks
-module _ {V T M : Type 0} (r : Rules V T) (read_once : (bytes : List ℕ) (a b : V) → r.reads bytes a → r.reads bytes b → a ≡ b) (w : World V T) (told : IsTrue w.told) (call : CallId) where
-  pub one_effect : (s t : Store V M) → t.limits ≡ s.limits → {at : At V T} (e f : Effect V T) → Row r s w call at e → Row r t w call at f
-      → is_short e.next ≡ false → is_short f.next ≡ false
+-- by the rules of a store, a told folder leaves one effect, unless memory lacks
+module _ {V T M : Type 0} (r : Rules V T) (s : Store V M) (read_once : (bytes : List ℕ) (a b : V) → r.reads bytes a → r.reads bytes b → a ≡ b) (w : World V T) (told : IsTrue w.told) (call : CallId) where
+  pub one_effect : {at : At V T} (e f : Effect V T) → Row r s w call at e → Row r s w call at f → is_short e.next ≡ false → is_short f.next ≡ false
       → is_faulted e.folder ≡ is_faulted f.folder → e ≡ f
-  one_effect s t same {at = at} e f x y long lasts failed =
+  one_effect {at = at} e f x y long lasts failed =
       let a = row_chosen r s w call x long in
-      let b = subst (λ (limits : Limits). IsChosen r limits w call at f) same (row_chosen r t w call y lasts) in
+      let b = row_chosen r s w call y lasts in
       a.is ∙ one_chosen r s.limits w call read_once told a.luck b.luck at a.meets b.meets (a.failed ∙ failed ∙ sym b.failed) ∙ sym b.is

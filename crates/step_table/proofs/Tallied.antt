@@ -39,9 +39,10 @@ failed_so told asked tally is =
       due = λ is_told. record { failed = sym parts.0; count = refl; due = refl };
     }
 
--- of a folder that tells what it does, the tally is one once a call went well
-pub well_is : (asked : FolderCall) (old new : Tally) → Tallies true asked false old new → new ≡ went_well asked old
-well_is asked old new it =
-    let due = it.due refl in
-    ap (λ (x : ℕ). record new { count = x }) due.count
-    ∙ (ap (λ (x : Option ℕ). record new { count = old.count; most = x }) it.most ∙ ap (λ (x : Due). record old { due = x }) due.due)
+-- of a folder that tells what it does, the tally is one once a call was made
+pub one_tally : (asked : FolderCall) (failed : Bool) (old x y : Tally) → Tallies true asked failed old x → Tallies true asked failed old y → x ≡ y
+one_tally asked failed old x y a b =
+    let one = a.due refl in
+    let other = b.due refl in
+    ap (λ (count : ℕ). record x { count = count }) (one.count ∙ sym other.count)
+    ∙ (ap (λ (most : Option ℕ). record x { count = y.count; most = most }) (a.most ∙ sym b.most) ∙ ap (λ (due : Due). record y { due = due }) (one.due ∙ sym other.due))

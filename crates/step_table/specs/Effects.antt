@@ -100,6 +100,11 @@ module _ {V T : Type 0} where
   abbrev pub call_by : Effect V T → Call V T → Call V T
   call_by e call = record call { at = at_by e.next call.at }
 
+  -- a planned failure of the folder leaves all that it holds
+  abbrev pub SparesFolder : FolderUse → (old new : World V T) → Type 0
+  SparesFolder (Faulted request) old new = new.folder ≡ old.folder
+  SparesFolder other old new = Unit {0}
+
 module _ {V T : Type 0} (t : Turned V T) (e : Effect V T) where
   -- a death frees what its node owns, and is used up
   abbrev pub world_by : World V T

@@ -1,6 +1,6 @@
 use Rattle.prefs_proto.specs.Laws.OneReading.{reads_once}
 use Rattle.replay_run.specs.PrefsBasis.{prefs_basis}
-use Rattle.replay_run.proofs.OneTranscript.{runs_once}
+use Rattle.replay_run.proofs.unique.OneTranscript.{runs_once}
 use Rattle.replay_run.proofs.laws.scripts_have_one_run.Goals as goal
 
 pub returns : goal.returns

@@ -1,0 +1,5 @@
+-- Each script that keeps its rules has a run.
+pub mod ChainExists
+pub mod RunExists
+pub mod StepExists
+pub mod TurnExists

@@ -1,0 +1,208 @@
+-- Each script that keeps its rules has a run.
+use Rattle.std.proofs.Common.{◌≡◌, ◌∙◌, ◌⊎◌, inl, inr, ◌<◌, ◌+◌, ◌-◌, ◌^◌, ℕ, suc, zero, List, All, [], ◌∷◌, length, flat_map, Option, Some, None, slice_get, refl, sym, ap, subst, arith}
+use Rattle.std.specs.List.{enumerate_from}
+use Rattle.std.proofs.lemmas.List.{length-map}
+use Rattle.std.proofs.lemmas.List.Elements.{All-append, All-cons, All-head, All-nil}
+use Rattle.std.proofs.lemmas.List.FromFn.{length-enumerate_from}
+use Rattle.std.proofs.lemmas.Option.{slice_get_cases}
+use Rattle.hist_journal.specs.declared.seen.BaseSeen.{BaseSeen}
+use Rattle.hist_journal.specs.declared.seen.BaseSeen.TheVariants.{Corrupt}
+use Rattle.prefs_model.specs.Map.{IsMap}
+use Rattle.shelf.specs.declared.store.Store.{Store}
+use Rattle.shelf.specs.Base.{HasItsBase}
+use Rattle.shelf.specs.Each.{Each}
+use Rattle.shelf.proofs.EachLemmas.{each_walked}
+use Rattle.script_lang.specs.declared.file_seen.FileSeen.TheVariants.{Absent}
+use Rattle.script_lang.specs.declared.run_line.Act.{Act}
+use Rattle.script_lang.specs.declared.run_line.Act.TheVariants as act
+use Rattle.script_lang.specs.declared.run_line.RunLine.{RunLine}
+use Rattle.script_lang.specs.declared.script.Script.{Script}
+use Rattle.script_lang.specs.declared.session_plan.SessionPlan.{SessionPlan}
+use Rattle.script_lang.specs.declared.transcript.Transcript.{Transcript}
+use Rattle.script_lang.specs.Chronicle.{Chapter, chapter_of, first_beginning, store_of, tally_of}
+use Rattle.script_lang.specs.Good.{file_seen}
+use Rattle.script_lang.specs.Keeps.{IsPlain, Keeps, KeepsPlan}
+use Rattle.script_lang.specs.TranscriptView.{SessionSeen}
+use Rattle.script_lang.proofs.GoodChapters.{one_chapter}
+use Rattle.replay_run.specs.Lines.{Asks, FollowsAll}
+use Rattle.replay_run.specs.PrefsBasis.{prefs_basis}
+use Rattle.replay_run.specs.Rounds.{EndsBy, Finishes, IsOver, Round, StepsEach}
+use Rattle.replay_run.specs.RunState.{Client, RunState, act_now}
+use Rattle.replay_run.specs.ScriptRun.{IsPlayed, Runs, lines_of}
+use Rattle.replay_run.specs.Settings.{Change, PrefRules, PrefStore, Value}
+use Rattle.replay_run.specs.Start.{new_client, start_of, world_of}
+use Rattle.replay_run.specs.Steps.{StepsAt, StepsBy}
+use Rattle.replay_run.specs.Typed.{AreSteps, IsTyped, IsTypedAct}
+use Rattle.replay_run.specs.WorkLeft.{RoundSoFar, work_left}
+use Rattle.replay_run.proofs.exists.ChainExists.{CanFollow, lines_is, rounds_is}
+use Rattle.replay_run.proofs.exists.StepExists.{update_steps}
+use Rattle.replay_run.proofs.exists.TurnExists.{MustBe, base_is}
+use Rattle.replay_run.proofs.keeping.BehindTurns.{behind, behind_same}
+use Rattle.replay_run.proofs.keeping.Peaceful.{is_peaceful}
+use Rattle.replay_run.proofs.keeping.StepsKeep.{new_from}
+use Rattle.replay_run.proofs.kept.PlansKept.{ReadsValues}
+use Rattle.replay_run.proofs.kept.RunKept.{KeptState, asks_keep_main, start_keeps_main, steps_keep_main, values_of_settings}
+use Rattle.replay_run.proofs.lists.SetLemmas.{found_then, set_same}
+use Rattle.replay_run.proofs.lists.SetViews.{all_found}
+use Rattle.replay_run.proofs.work.WorkLemmas.{round_begins, round_falls, round_goes_on}
+
+abbrev IsUpdate : Act → Type 0
+IsUpdate (act.Update edit) = Unit {0}
+IsUpdate other = ⊥
+
+-- a step asks its client for nothing more
+asked_same : (r : PrefRules) {M : Type 0} (s : Store Value M) (place : ℕ) (old new : RunState) (it : StepsAt r s place old new) → it.client_after.asked ≡ it.client.asked
+asked_same r s place old new it = by_act (act_now it.client) it.steps
+  where
+    by_act : (asked : Option Act) → StepsBy r s asked it.client old.shared it.client_after new.shared → it.client_after.asked ≡ it.client.asked
+    by_act None rests = ap (λ (c : Client). c.asked) rests.0
+    by_act (Some (act.Update edit)) turn = (behind_same turn.gave it.client_after (behind it.client turn.call_after turn.gave it.client_after turn.now)).asked
+    by_act (Some other) none = absurd none
+
+module _ {M : Type 0} (r : PrefRules) (s : Store Value M) (values : ReadsValues r IsMap AreSteps s) (unplanned : s.deaths ≡ []) (most : s.folder.most ≡ Some 0) (unmigrated : s.migrations ≡ []) (unreplaced : s.handler ≡ None) (low : s.limits.file < 2 ^ 64 - 1) where
+  -- what is kept, of clients that are asked for updates alone
+  record Kept (state : RunState) : Type 0 where
+    pub main : KeptState r s state
+    pub updates : (place : ℕ) (client : Client) → slice_get state.clients place ≡ Some client → All IsUpdate client.asked
+
+  step_is : (place : ℕ) (state : RunState) → place < length state.clients → Kept state → MustBe (StepsAt r s place state)
+  step_is place state within kept none =
+      elim (slice_get_cases state.clients place).1 [
+        | inl found ↦ by_act found.0 found.2 (act_now found.0) refl
+        | inr past ↦ (let less = past.0 in absurd (omega (arith, less, within)))
+      ]
+    where
+      by_act : (client : Client) → slice_get state.clients place ≡ Some client → (asked : Option Act) → act_now client ≡ asked → ⊥
+      by_act client found None is =
+          none state (record { client = client; client_after = client; was = found; steps = rw is (refl, refl); now = sym (set_same state.clients place client found) })
+      by_act client found (Some (act.Update edit)) is =
+          let peace = is_peaceful s unplanned most r state kept.main.run in
+          let count = peace.count in
+          update_steps r s unmigrated unreplaced low state peace.alive peace.deaths (λ call. rw (peace.planned, peace.fuses) refl) (omega (arith, count)) place client found edit is
+          (kept.main.run.clients place client found).running none
+      by_act client found (Some other) is = absurd (all_found IsUpdate client.asked (length client.answered) other is (kept.updates place client found))
+
+  step_keeps : (place : ℕ) (old new : RunState) → StepsAt r s place old new → Kept old → Kept new
+  step_keeps place old new it kept =
+      record {
+        main = steps_keep_main r s values unplanned most place old new it kept.main;
+        updates =
+            λ other c is.
+            elim (found_then old.clients place other it.client_after c (rw it.now at is)) [
+              | inl here ↦ rw (here.1, asked_same r s place old new it) (kept.updates place it.client it.was)
+              | inr there ↦ kept.updates other c there.1
+            ];
+      }
+
+  asking_keeps : (place : ℕ) (edit : Change) (old new : RunState) → Asks place (act.Update edit) old new → IsTypedAct (act.Update edit) → Kept old → Kept new
+  asking_keeps place edit old new it typed kept =
+      record {
+        main = asks_keep_main r s place (act.Update edit) old new it typed kept.main;
+        updates =
+            λ other c is.
+            elim (found_then old.clients place other _ c (rw it.now at is)) [
+              | inl here ↦ rw here.1 (All-append IsUpdate it.client.asked (act.Update edit ∷ []) (kept.updates place it.client it.was) (All-cons IsUpdate (act.Update edit) [] tt (All-nil IsUpdate)))
+              | inr there ↦ kept.updates other c there.1
+            ];
+      }
+
+  so_far : (place clients : ℕ) (start now new : RunState) → StepsEach r s place clients now new → Kept now → RoundSoFar s.limits.file start place now → RoundSoFar s.limits.file start (place + clients) new
+  unfolding StepsEach
+  so_far place zero start now new it kept far = rw it (let same : place + 0 ≡ place = omega arith in rw same far)
+  so_far place (suc clients) start now new it kept far =
+      let one = round_goes_on r s unplanned most start place now it.0 it.1 kept.main.run kept.main.told far in
+      let same : place + 1 + clients ≡ place + suc clients = omega arith in
+      subst (λ n. RoundSoFar s.limits.file start n new) same (so_far (place + 1) clients start it.0 new it.2 (step_keeps place now it.0 it.1 kept) one)
+
+  falls : (old new : RunState) → Kept old → Round r s old new → IsOver old ⊎ (work_left s.limits.file new < work_left s.limits.file old)
+  falls old new kept round =
+      let same : 0 + length old.clients ≡ length old.clients = omega arith in
+      round_falls r s unplanned most old new kept.main.run
+      (subst (λ n. RoundSoFar s.limits.file old n new) same (so_far 0 (length old.clients) old old new round kept (round_begins r s unplanned most old)))
+
+  -- the end of a session
+  pub record Ended (lines : List RunLine) (start end : RunState) : Type 0 where
+    pub between : RunState
+    pub follows : FollowsAll r s lines start between
+    pub finishes : Finishes r s between end
+
+  pub session_is : (lines : List RunLine) (start : RunState) → All (CanFollow (length start.clients)) lines → KeptState r s start → ((place : ℕ) (client : Client) → slice_get start.clients place ≡ Some client → client.asked ≡ [])
+      → MustBe (Ended lines start)
+  session_is lines start can kept unasked none =
+      lines_is r s Kept step_is step_keeps asking_keeps lines start can (record { main = kept; updates = λ place client found. rw (unasked place client found) (All-nil IsUpdate) })
+      (λ between follows.
+      rounds_is r s Kept step_is step_keeps asking_keeps (work_left s.limits.file) falls (work_left s.limits.file between) between (omega arith) follows.on.kept
+      (λ end finishes. none end (record { between = between; follows = follows.goes; finishes = finishes.goes })))
+
+module _ (script : Script) (kept : Keeps script) (typed : IsTyped script) where
+  abbrev plan : SessionPlan
+  plan = kept.built.plan
+
+  plain : IsPlain plan
+  plain = kept.built.plain
+
+  -- what is told of the session, where main reads as this base and a run ends in this state
+  abbrev told_of : BaseSeen Value → RunState → SessionSeen
+  told_of base end = record { base = base; answers = flat_map lines_of end.clients; entries = end.shared.world.history; file = file_seen prefs_basis.file_limit end.shared.world.folder.main }
+
+  abbrev nothing_yet : RunState
+  nothing_yet = record { shared = record { world = world_of (tally_of 0 plan) (store_of prefs_basis script (first_beginning script) plan (record { base = Corrupt; answers = []; entries = []; file = Absent })) }; clients = [] }
+
+  abbrev chapter : SessionSeen → Chapter
+  chapter told = chapter_of prefs_basis script (first_beginning script) [] plan told
+
+  abbrev store : BaseSeen Value → PrefStore
+  store base = (chapter (told_of base nothing_yet)).store
+
+  abbrev start : BaseSeen Value → RunState
+  start base = start_of [] (tally_of 0 plan) (store base) script.homes
+
+  in_first : (P : SessionPlan → Type 0) → All P script.sessions → P plan
+  in_first P all = All-head P plan [] (subst (λ sessions. All P sessions) kept.built.only all)
+
+  many : (base : BaseSeen Value) → length (start base).clients ≡ length script.homes
+  many base = length-map (enumerate_from 0 script.homes) (λ placed. new_client [] placed.0 placed.1) ∙ length-enumerate_from 0 script.homes
+
+  can_follow : (base : BaseSeen Value) → All (CanFollow (length (start base).clients)) plan.lines
+  can_follow base place d within =
+      let run = (in_first (KeepsPlan script) kept.sessions.plans).runs place d within in
+      let homes = many base in
+      let one_each = kept.homes.one_each in
+      let declared = run.declared in
+      record { declared = omega (arith, declared, homes, one_each); built = kept.built.acts place d within; typed = in_first (λ p. All (λ (line : RunLine). IsTypedAct line.act) p.lines) typed place d within }
+
+  module _ (base : BaseSeen Value) (reads : HasItsBase prefs_basis.rules.reads prefs_basis.rules.absent (store base)) where
+    most : (store base).folder.most ≡ Some 0
+    most = rw plain refl
+
+    kept_start : KeptState prefs_basis.rules (store base) (start base)
+    kept_start = start_keeps_main prefs_basis.rules (store base) reads most [] (tally_of 0 plan) script.homes refl refl
+
+    ended_is : MustBe (Ended prefs_basis.rules (store base) (values_of_settings (store base) omega arith) (ap (λ (p : SessionPlan). p.deaths) plain) most refl (rw kept.built.unreplaced refl) (omega arith) plan.lines (start base))
+    ended_is = session_is prefs_basis.rules (store base) (values_of_settings (store base) omega arith) (ap (λ (p : SessionPlan). p.deaths) plain) most refl (rw kept.built.unreplaced refl) (omega arith) plan.lines (start base) (can_follow base) kept_start
+        (λ place client found. ap (λ (c : Client). c.asked) (new_from [] 0 script.homes place client found).is)
+
+  -- it cannot be that there is no run
+  pub run_is : MustBe (Runs prefs_basis script)
+  run_is none =
+      base_is prefs_basis.rules (store Corrupt) (start Corrupt).shared.world (first_beginning script).main
+      (λ base reads.
+      ended_is base reads
+      (λ end it.
+      let told = told_of base end in
+      let transcript : Transcript = record { names = script.names; sessions = told ∷ [] } in
+      let played : IsPlayed prefs_basis script [] (chapter told) =
+      record {
+        base = reads;
+        between = it.between;
+        follows = it.follows;
+        end = end;
+        ends = subst (λ stop. EndsBy prefs_basis.rules (store base) stop it.between end) (sym (ap (λ (p : SessionPlan). p.stop) plain)) it.finishes;
+        tells = record { answers = refl; entries = refl; file = refl };
+      } in
+      none transcript
+      (record {
+        names = refl;
+        sessions = sym (ap (λ (xs : List SessionPlan). length xs) kept.built.only);
+        played = subst (λ chapters. Each (IsPlayed prefs_basis script) chapters) (sym (one_chapter prefs_basis script plan told transcript refl kept.built.only (ap (λ (p : SessionPlan). p.stop) plain) refl)) (each_walked (IsPlayed prefs_basis script) (chapter told ∷ []) (played, tt));
+      })))

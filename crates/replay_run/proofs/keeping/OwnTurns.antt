@@ -1,0 +1,158 @@
+-- What a turn of a call leaves in a peaceful world.
+use Rattle.std.proofs.Common.{◌≡◌, ◌∙◌, inl, inr, ℕ, Bool, true, false, List, [], ◌++◌, Some, IfSome, IsTrue, append-nil, count_by, option_map, unwrap_or, refl, sym, ap, subst}
+use Rattle.std.specs.List.{list_any}
+use Rattle.store_traits.specs.declared.ids.CallId.{CallId}
+use Rattle.folder_disk.specs.Tally.{most_of}
+use Rattle.hist_journal.specs.Folds.{edition_of}
+use Rattle.prefs_text.specs.EntryText.{PrefEntry, PrefKind}
+use Rattle.prefs_text.specs.declared.seen.AnswerSeen.{AnswerSeen}
+use Rattle.shelf.specs.declared.store.Store.{Store}
+use Rattle.shelf.specs.Entries.{is_own, is_update, with_entries}
+use Rattle.shelf.proofs.Bools.{never}
+use Rattle.shelf.proofs.DeathLemmas.{has_not_died}
+use Rattle.step_table.specs.declared.progress.Progress.{Progress}
+use Rattle.step_table.specs.declared.progress.Progress.TheVariants.{Moved, Ended}
+use Rattle.step_table.specs.Calls.{At, Changed, Kept, Reply, is_gone}
+use Rattle.step_table.specs.Effects.{Effect, Next, Ends, gave_by}
+use Rattle.step_table.specs.Rows.{Row, finishes, raises, renames, acknowledges, refuses, sync_fails}
+use Rattle.step_table.specs.Turn.{AllowedBy, RowOf, Turn, dies_now, has_died_by}
+use Rattle.step_table.specs.World.{Turned, begin}
+use Rattle.step_table.proofs.Applying.{all_added, entries_of}
+use Rattle.step_table.proofs.LockLemmas.{not_freed}
+use Rattle.node_core.specs.Own.{IsEarly, OwnEntries}
+use Rattle.node_core.specs.Phases.{is_holding}
+use Rattle.node_core.specs.Plans.{PlanAt}
+use Rattle.node_core.proofs.FailedCalls.{no_update}
+use Rattle.node_core.proofs.MovingLemmas.{moved_goes}
+use Rattle.script_lang.specs.GoodCauses.{may_stand}
+use Rattle.script_lang.specs.Shown.{printed}
+use Rattle.replay_run.specs.Answering.{reply_told}
+use Rattle.replay_run.specs.RunInvariant.{is_later_work}
+use Rattle.replay_run.specs.Settings.{Change, PrefCall, PrefRules, PrefWorld, Value}
+use Rattle.replay_run.proofs.keeping.Peaceful.{NoneFails, Peaceful, dies, is_folder_fault, none_fails}
+
+abbrev pub comes_later : PrefEntry → Bool
+comes_later e = is_later_work e.kind
+
+-- an effect strikes nobody dead, and adds no Death, no Fault and nothing that is not built
+record IsPlainEffect (call : CallId) (e : Effect Value Change) : Type 0 where
+  pub spares : e.dies ≡ false
+  pub alive : list_any dies (entries_of call e.kinds) ≡ false
+  pub faults : count_by is_folder_fault (entries_of call e.kinds) ≡ 0
+  pub built : list_any comes_later (entries_of call e.kinds) ≡ false
+
+-- what a turn leaves that adds entries of these kinds
+pub record OwnTurn (t : Turned Value Change) (kinds : List PrefKind) : Type 0 where
+  pub adds : t.world_after.history ≡ t.world.history ++ entries_of t.call.id kinds
+  pub alive : list_any dies (entries_of t.call.id kinds) ≡ false
+  pub faults : count_by is_folder_fault (entries_of t.call.id kinds) ≡ 0
+  pub built : list_any comes_later (entries_of t.call.id kinds) ≡ false
+  pub deaths : t.world_after.deaths ≡ t.world.deaths
+  pub count : t.world_after.tally.count ≡ 0
+  pub due : (count : ℕ) → most_of count t.world_after.tally.due ≡ most_of count t.world.tally.due
+
+ends_so : (next : Next Value Change) (reply : Reply Value) → Ended reply ≡ gave_by next → next ≡ Ends reply
+ends_so (Ends given) reply is = let same : given ≡ reply = (let both : ◌≡◌ {A = Progress (Reply Value)} (Ended reply) (Ended given) = is in cc) in ap Ends same
+ends_so other reply is = cc
+
+-- what an answer prints is the edition of now
+abbrev EndsNow : PrefWorld → Next Value Change → Type 0
+EndsNow w (Ends reply) = IfSome (reply_told reply) (λ answer. IfSome (printed answer) (λ edition. edition ≡ edition_of w.history))
+EndsNow w other = Unit {0}
+
+-- what goes on or is answered so may have left an Edit or a Same
+abbrev stands : Next Value Change → Bool
+stands (Ends reply) = unwrap_or (option_map may_stand (reply_told reply)) true
+stands other = true
+
+module _ (r : PrefRules) {M : Type 0} (s : Store Value M) where
+  module _ (w : PrefWorld) (call : CallId) where
+    row_plain : {at : At Value Change} {e : Effect Value Change} → Row r s w call at e → PlanAt at → IsPlainEffect call e
+    row_plain renames so = rw so.asked.is (record { spares = refl; alive = refl; faults = refl; built = refl })
+    row_plain (acknowledges {ending = Changed place}) so = record { spares = refl; alive = refl; faults = refl; built = refl }
+    row_plain (acknowledges {ending = Kept edit}) so = record { spares = refl; alive = refl; faults = refl; built = refl }
+    row_plain other so = record { spares = refl; alive = refl; faults = refl; built = refl }
+
+    row_prints : {at : At Value Change} {e : Effect Value Change} → Row r s w call at e → EndsNow w e.next
+    row_prints (refuses read refused) = refl
+    row_prints acknowledges = refl
+    row_prints other = tt
+
+    -- a row that ends so adds nothing to a call that has changed nothing
+    row_early : {at : At Value Change} {e : Effect Value Change} → Row r s w call at e → stands e.next ≡ false → OwnEntries call at w.history → IsEarly call w.history × (e.kinds ≡ [])
+    row_early finishes out own = never (sym out)
+    row_early raises out own = never (sym out)
+    row_early renames out own = never (sym out)
+    row_early acknowledges out own = never (sym out)
+    row_early sync_fails out own = never (sym out)
+    row_early other out own = (own, refl)
+
+  row_by : (gone : Bool) (t : Turned Value Change) (e : Effect Value Change) → AllowedBy r s gone false false t e → RowOf r s t e
+  row_by true t e it = absurd it
+  row_by false t e it = it
+
+  module _ (t : Turned Value Change) (peace : Peaceful t.world) where
+    -- the node of the call has not died
+    pub living : has_died_by (begin t) ≡ false
+    living = has_not_died t.call.id.node (begin t).call.since t.world.history peace.alive
+
+    pub goes_on : dies_now (begin t) ≡ false
+    goes_on = rw peace.deaths refl
+
+    module _ (gave : Progress (Reply Value)) (turn : Turn r s t gave) where
+      -- the turn is its row
+      pub turn_row : RowOf r s t turn.effect
+      turn_row = row_by (is_gone t.call.at) (begin t) turn.effect (rw (living, goes_on) at turn.allowed)
+
+      module _ (told : IsTrue t.world.told) where
+        calm : NoneFails t.world.tally t.world_after.tally turn.effect
+        calm = none_fails (begin t) turn.effect told peace turn.comes.used (ap (λ (w : PrefWorld). w.tally) turn.comes.world)
+
+        -- it adds the entries of its row
+        adds_own : t.world_after.history ≡ t.world.history ++ entries_of t.call.id turn.effect.kinds
+        adds_own =
+            ap (λ (w : PrefWorld). w.history) turn.comes.world
+            ∙ ap (λ kinds. with_entries t.call.id kinds t.world.history) (calm.kinds t.world_after.tally.count)
+            ∙ all_added t.call.id turn.effect.kinds t.world.history
+
+        pub own_turn : PlanAt t.call.at → OwnTurn t turn.effect.kinds
+        own_turn plan =
+            let plain = row_plain t.world t.call.id turn_row plan in
+            record {
+              adds = adds_own;
+              alive = plain.alive;
+              faults = plain.faults;
+              built = plain.built;
+              deaths = ap (λ (w : PrefWorld). w.deaths) turn.comes.world ∙ rw plain.spares refl;
+              count = calm.count;
+              due = calm.due;
+            }
+
+    module _ (reply : Reply Value) (turn : Turn r s t (Ended reply)) (answer : AnswerSeen) (tells : reply_told reply ≡ Some answer) where
+      ends : turn.effect.next ≡ Ends reply
+      ends = ends_so turn.effect.next reply turn.comes.given
+
+      pub prints_now : IfSome (printed answer) (λ edition. edition ≡ edition_of t.world.history)
+      prints_now =
+          let now : EndsNow t.world (Ends reply) = subst (λ next. EndsNow t.world next) ends (row_prints t.world t.call.id (turn_row (Ended reply) turn)) in
+          rw tells at now
+
+      -- an answer leaves no update of its call, unless that may stand
+      pub leaves_none : IsTrue t.world.told → OwnEntries t.call.id t.call.at t.world.history → may_stand answer ≡ false → list_any (is_own is_update t.call.id) t.world_after.history ≡ false
+      leaves_none told own out =
+          let early = row_early t.world t.call.id (turn_row (Ended reply) turn) (rw (ends, tells) out) own in
+          let same : t.world_after.history ≡ t.world.history =
+          adds_own (Ended reply) turn told ∙ ap (λ kinds. t.world.history ++ entries_of t.call.id kinds) early.1 ∙ append-nil t.world.history in
+          rw same (no_update t.call.id t.world.history early.0)
+
+  module _ (t : Turned Value Change) where
+    pub same_call_after : (gave : Progress (Reply Value)) → Turn r s t gave → t.call_after.id ≡ t.call.id
+    same_call_after gave turn = ap (λ (c : PrefCall). c.id) turn.comes.call
+
+    -- where the call owns the lock behind it, it holds it
+    pub moved_holds : Turn r s t Moved → t.world_after.owner ≡ Some t.call.id → is_holding t.call_after.at ≡ true
+    moved_holds turn owns =
+        elim (moved_goes r s t turn) [
+          | inl holds ↦ holds
+          | inr first ↦ absurd (not_freed t.call.id t.world.owner (sym first.1 ∙ owns))
+        ]

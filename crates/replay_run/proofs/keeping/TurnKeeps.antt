@@ -1,0 +1,292 @@
+-- A turn of a client's call keeps what is kept between the steps of a run.
+use Rattle.std.proofs.Common.{◌≡◌, ◌∙◌, inl, inr, ◌≤◌, ◌<◌, ◌+◌, ◌==◌, ◌&&◌, ℕ, nat_le, Bool, true, false, List, All, Contains, [], ◌∷◌, ◌++◌, length, count_by, Option, Some, None, IfSome, slice_get, slice_set, slice_index_or, unwrap_or, refl, sym, ap, subst, arith}
+use Rattle.std.specs.List.{list_any}
+use Rattle.std.proofs.lemmas.Bool.{ne_eqb}
+use Rattle.std.proofs.lemmas.Bool.Decides.{nat_tests}
+use Rattle.std.proofs.lemmas.List.Elements.{All-append, All-map, All-nil}
+use Rattle.std.proofs.lemmas.List.Sums.{sum_by-append}
+use Rattle.std.proofs.lemmas.Option.{IfSome_then}
+use Rattle.store_traits.specs.declared.ids.CallId.{CallId}
+use Rattle.store_traits.specs.declared.update_error.UpdateError.{UpdateError}
+use Rattle.store_traits.specs.declared.update_error.UpdateError.TheVariants as error
+use Rattle.folder_disk.specs.Tally.{most_of}
+use Rattle.hist_journal.specs.Folds.{edition_of}
+use Rattle.hist_journal.specs.Kinds.{is_call}
+use Rattle.prefs_text.specs.EntryText.{PrefEntry, PrefKind}
+use Rattle.prefs_text.specs.declared.seen.AnswerSeen.{AnswerSeen}
+use Rattle.shelf.specs.declared.store.Store.{Store}
+use Rattle.shelf.specs.Causes.{HasCause}
+use Rattle.shelf.specs.Each.{Each}
+use Rattle.shelf.specs.Entries.{is_any, is_own, is_update}
+use Rattle.shelf.specs.Meanwhile.{NoneOf}
+use Rattle.shelf.specs.Places.{is_up_to}
+use Rattle.shelf.proofs.Bools.{never, none_in_both}
+use Rattle.shelf.proofs.DeathLemmas.{has_not_died}
+use Rattle.shelf.proofs.EachLemmas.{each_push}
+use Rattle.shelf.proofs.SameCalls.{itself, same_call}
+use Rattle.step_table.specs.declared.progress.Progress.{Progress}
+use Rattle.step_table.specs.declared.progress.Progress.TheVariants.{Ended}
+use Rattle.step_table.specs.Calls.{Reply, Updated, Gave, Failed, is_gone}
+use Rattle.step_table.specs.Turn.{Turn}
+use Rattle.step_table.specs.World.{Turned}
+use Rattle.step_table.proofs.Applying.{ended_owns_nothing, entries_of, none_passes, turn_owner}
+use Rattle.step_table.proofs.Waiting.{turn_waits}
+use Rattle.node_core.specs.Own.{IsFor}
+use Rattle.node_core.proofs.BetweenLemmas.{between_keeps_knowledge}
+use Rattle.node_core.proofs.CauseOfAnswers.{ShowsReply, told_cause, turn_shows}
+use Rattle.node_core.proofs.ForLemmas.{turn_is_for, still_for}
+use Rattle.node_core.proofs.KeepingLemmas.{turn_keeps_knowledge, turn_stays}
+use Rattle.node_core.proofs.MovingLemmas.{moved_runs}
+use Rattle.node_core.proofs.SparingLemmas.{turn_spares}
+use Rattle.script_lang.specs.GoodCauses.{may_stand}
+use Rattle.script_lang.specs.Shown.{printed, shown_to}
+use Rattle.script_lang.specs.declared.run_line.Act.TheVariants as act
+use Rattle.replay_run.specs.Answering.{error_told, reply_told}
+use Rattle.replay_run.specs.ClientInvariant.{CallInvariant, ClientInvariant, IsExplained, IsTrueAnswer}
+use Rattle.replay_run.specs.RunInvariant.{HasOwner, IsOfCall, ReadsWell, RunInvariant}
+use Rattle.replay_run.specs.RunState.{Client, RunState, Shared, act_now, call_at, call_now}
+use Rattle.replay_run.specs.Settings.{Change, PrefCall, PrefRules, PrefWorld, Value}
+use Rattle.replay_run.specs.Steps.{TakesTurn}
+use Rattle.replay_run.proofs.keeping.AnswerLemmas.{answers_more, answers_same, cause_of_less, shown_stays, shown_within}
+use Rattle.replay_run.proofs.keeping.BehindTurns.{Behind, at_most_one, IsSameClient, behind, behind_same, blocked, client_answered, client_on, ended, line_of, moved}
+use Rattle.replay_run.proofs.keeping.CallKept.{call_kept, middle_none, new_call}
+use Rattle.replay_run.proofs.keeping.OwnTurns.{OwnTurn, comes_later, leaves_none, living, moved_holds, own_turn, prints_now, same_call_after}
+use Rattle.replay_run.proofs.keeping.Peaceful.{Peaceful, dies, is_folder_fault, is_peaceful, none_before}
+use Rattle.replay_run.proofs.keeping.ReplacedClient.{entries_on, owner_apart}
+use Rattle.replay_run.proofs.lists.JoinedLemmas.{found_between}
+use Rattle.replay_run.proofs.lists.OptionLemmas.{none_at, one_of_it}
+use Rattle.replay_run.proofs.lists.SetLemmas.{found_then, set_found}
+
+up_to_none : (same : Bool) (earlier place nth : ℕ) → place < nth → (same && nat_le (earlier + nth + 1) (earlier + place + 1)) ≡ false
+up_to_none same earlier place nth less = grind (arith, nat_tests, less)
+
+none_counted : {X : Type 0} (p : X → Bool) (xs ys : List X) → count_by p xs ≡ 0 → count_by p ys ≡ 0 → count_by p (xs ++ ys) ≡ 0
+none_counted p xs ys none more = sum_by-append _ xs ys ∙ rw (none, more) refl
+
+module _ (r : PrefRules) {M : Type 0} (s : Store Value M) (unplanned : s.deaths ≡ []) (most : s.folder.most ≡ Some 0) where
+  module _ (state : RunState) (place : ℕ) (client now : Client) (shared_after : Shared) (edit : Change) (found : slice_get state.clients place ≡ Some client) (asked : act_now client ≡ Some (act.Update edit))
+      (it : TakesTurn r s edit client state.shared now shared_after) (keeps : RunInvariant r s state) (well : ReadsWell r s state.shared.world) where
+    abbrev w : PrefWorld
+    w = state.shared.world
+
+    abbrev w_after : PrefWorld
+    w_after = shared_after.world
+
+    abbrev call : PrefCall
+    call = call_now client edit
+
+    abbrev turned : Turned Value Change
+    turned = record { world = w; call = call; world_after = w_after; call_after = it.call_after }
+
+    abbrev clients_after : List Client
+    clients_after = slice_set state.clients place now
+
+    mine : ClientInvariant r s place w client
+    mine = keeps.clients place client found
+
+    kept : CallInvariant r s client w call
+    kept = call_kept r s state place client found keeps edit asked
+
+    peace : Peaceful w
+    peace = is_peaceful s unplanned most r state keeps
+
+    own : OwnTurn turned it.turn.effect.kinds
+    own = own_turn r s turned peace it.gave it.turn well.told kept.knows.plan
+
+    abbrev more : List PrefEntry
+    more = entries_of call.id it.turn.effect.kinds
+
+    alive_after : list_any dies w_after.history ≡ false
+    alive_after = rw own.adds (none_in_both dies w.history more peace.alive own.alive)
+
+    same : IsSameClient client now
+    same = behind_same it.gave now (behind client it.call_after it.gave now it.now)
+
+    same_id : it.call_after.id ≡ call.id
+    same_id = same_call_after r s turned it.gave it.turn
+
+    at_place : call.id.client.0 ≡ place
+    at_place = ap (λ (id : CallId). id.client.0) kept.id ∙ mine.id
+
+    -- a client at another place
+    module _ (other : ℕ) (c : Client) (apart : other ≡ place → ⊥) (other_found : slice_get state.clients other ≡ Some c) where
+      theirs : ClientInvariant r s other w c
+      theirs = keeps.clients other c other_found
+
+      differ : (c.id.0 == call.id.client.0) ≡ false
+      differ = ne_eqb c.id.0 call.id.client.0 (λ same. apart (sym theirs.id ∙ (same ∙ at_place)))
+
+      running_stays : (o : PrefCall) → CallInvariant r s c w o → CallInvariant r s c w_after o
+      running_stays o theirs =
+          let o_differs : (o.id.client.0 == call.id.client.0) ≡ false = rw theirs.id differ in
+          let none_own : NoneOf o.id more = none_passes call.id it.turn.effect.kinds (is_own is_any o.id) (λ kind. rw (middle_none (o.id.node.0 == call.id.node.0) (o.id.client.0 == call.id.client.0) (o.id.number == call.id.number) o_differs) refl) in
+          record {
+            edit = theirs.edit;
+            asked = theirs.asked;
+            id = theirs.id;
+            is_for = rw own.adds (still_for o.id theirs.edit o.at w.history more none_own theirs.is_for);
+            knows =
+                between_keeps_knowledge r s o w w_after theirs.knows (turn_spares r s turned it.gave it.turn kept.knows o o_differs theirs.knows)
+                (has_not_died o.id.node o.since w_after.history alive_after);
+            goes_on = theirs.goes_on;
+          }
+
+      client_stays : ClientInvariant r s other w_after c
+      client_stays =
+          record {
+            id = theirs.id;
+            running = IfSome_then c.running theirs.running running_stays;
+            answers =
+                rw own.adds
+                (answers_more r s c w.history more c.answered theirs.answers (λ nth within. none_passes call.id it.turn.effect.kinds (is_up_to (call_at c nth)) (λ kind. rw differ refl)));
+          }
+
+    -- the client itself: its answers stay true, and a new one is
+    over_own : (nth : ℕ) → nth + 1 ≤ length client.answered → list_any (is_up_to (call_at client nth)) more ≡ false
+    over_own nth within =
+        none_passes call.id it.turn.effect.kinds (is_up_to (call_at client nth)) (λ kind. rw kept.id (up_to_none _ client.earlier nth (length client.answered) (omega (arith, within))))
+
+    still_true : Each (IsTrueAnswer r s w_after.history client) client.answered
+    still_true = rw own.adds (answers_more r s client w.history more client.answered mine.answers over_own)
+
+    abbrev shown : ℕ
+    shown = shown_to client.id w_after.history client.answered
+
+    within_now : shown ≤ edition_of w.history
+    within_now = rw (own.adds, shown_stays r s client w.history more client.answered mine.answers) (shown_within r s client w.history client.answered mine.answers)
+
+    abbrev TurnOf : Progress (Reply Value) → Type 0
+    TurnOf gave = Turn r s turned gave
+
+    shows : (reply : Reply Value) → TurnOf (Ended reply) → ShowsReply r s kept.edit w call.id (Ended reply) w_after.history
+    shows reply turn = turn_shows r s kept.edit turned kept.knows well.reads kept.is_for (Ended reply) turn (λ died. never (sym (living r s turned peace) ∙ died))
+
+    error_explained : (err : UpdateError) → HasCause r s shown call.id kept.edit err w_after.history → IfSome (error_told err) (IsExplained r s w_after.history shown call.id (act.Update kept.edit))
+    error_explained error.NoMemory cause = tt
+    error_explained other cause = cause
+
+    explains : (reply : Reply Value) → TurnOf (Ended reply) → IfSome (reply_told reply) (IsExplained r s w_after.history shown call.id (act.Update kept.edit))
+    explains (Updated edition) turn = shows (Updated edition) turn
+    explains (Gave edition value) turn = tt
+    explains (Failed err) turn =
+        error_explained err
+        (cause_of_less r s shown (edition_of w.history) call.id kept.edit err w_after.history within_now
+        (told_cause r s kept.edit w.told (edition_of w.history) call.id err w_after.history well.told (shows (Failed err) turn)))
+
+    new_answer : (reply : Reply Value) (answer : AnswerSeen) → reply_told reply ≡ Some answer → TurnOf (Ended reply) → IsTrueAnswer r s w_after.history client client.answered (line_of it.call_after answer)
+    new_answer reply answer tells turn =
+        record {
+          act = act.Update kept.edit;
+          asked = kept.asked;
+          call = same_id ∙ kept.id;
+          poster = refl;
+          explained = subst (λ id. IsExplained r s w_after.history shown id (act.Update kept.edit) answer) (sym same_id) (let here = explains reply turn in rw tells at here);
+          late = IfSome_then (printed answer) (prints_now r s turned peace reply turn answer tells) (λ edition now. rw now within_now);
+          none = subst (λ id. may_stand answer ≡ false → list_any (is_own is_update id) w_after.history ≡ false) (sym same_id) (leaves_none r s turned peace reply turn answer tells well.told kept.knows.entries);
+        }
+
+    -- the call goes on
+    client_goes_on : is_gone it.call_after.at ≡ false → ClientInvariant r s place w_after (client_on client it.call_after)
+    client_goes_on goes_on =
+        record {
+          id = mine.id;
+          running =
+              record {
+                edit = kept.edit;
+                asked = kept.asked;
+                id = same_id ∙ kept.id;
+                is_for = subst (λ id. IsFor id kept.edit it.call_after.at w_after.history) (sym same_id) (turn_is_for r s kept.edit turned it.gave it.turn kept.knows kept.is_for);
+                knows = turn_keeps_knowledge r s turned it.gave it.turn kept.knows well.reads goes_on;
+                goes_on = goes_on;
+              };
+          answers = answers_same r s client (client_on client it.call_after) w_after.history client.answered refl refl refl (λ nth a is. is) still_true;
+        }
+
+    client_behind : (gave : Progress (Reply Value)) (c : Client) → Behind client it.call_after gave c → TurnOf gave → ClientInvariant r s place w_after c
+    client_behind gave c moved turn = client_goes_on (moved_runs r s turned turn)
+    client_behind gave c blocked turn = client_goes_on (ap (λ (c : PrefCall). is_gone c.at) (turn_stays r s turned turn).1 ∙ kept.goes_on)
+    client_behind gave c (ended {reply} {answer} tells) turn =
+        let line = line_of it.call_after answer in
+        record {
+          id = mine.id;
+          running = tt;
+          answers =
+              answers_same r s client (client_answered client line) w_after.history (client.answered ++ line ∷ []) refl refl refl (λ nth a is. is)
+              (each_push (IsTrueAnswer r s w_after.history client) client.answered line still_true (new_answer reply answer tells turn));
+        }
+
+    -- entries of the call are of the client
+    own_entry : (kind : PrefKind) → IsOfCall clients_after (record { who = call.id; kind = kind })
+    own_entry kind =
+        record {
+          client = now;
+          found = subst (λ p. slice_get clients_after p ≡ Some now) (sym at_place) (set_found state.clients place now client found);
+          place = length client.answered;
+          who = rw (same.id, same.node, same.earlier) kept.id;
+          begun = let all = same.begun in omega (arith, all);
+        }
+
+    all_entries : All (IsOfCall clients_after) (w.history ++ more)
+    all_entries =
+        All-append (IsOfCall clients_after) w.history more
+        (entries_on state.clients place client now found (λ nth. rw (same.id, same.node, same.earlier) refl) (let most = at_most_one client in let all = same.begun in omega (arith, most, all)) w.history keeps.entries)
+        (All-map (IsOfCall clients_after) (λ kind. record { who = call.id; kind = kind }) it.turn.effect.kinds (λ k d within. own_entry (slice_index_or it.turn.effect.kinds k d)))
+
+    -- the lock: the call owns it behind the turn, or another did before
+    own_owner : (gave : Progress (Reply Value)) (c : Client) → Behind client it.call_after gave c → TurnOf gave → w_after.owner ≡ Some call.id → HasOwner (slice_set state.clients place c) call.id
+    own_owner gave c (ended {reply} tells) turn owns = absurd (ended_owns_nothing r s turned reply turn owns)
+    own_owner gave c moved turn owns =
+        record {
+          place = place;
+          client = c;
+          call = it.call_after;
+          found = set_found state.clients place c client found;
+          runs = refl;
+          own = sym same_id;
+          holds = moved_holds r s turned turn owns;
+        }
+    own_owner gave c blocked turn owns =
+        let waits = turn_waits r s turned turn in
+        let owned : w.owner ≡ Some call.id = ap (λ (w : PrefWorld). w.owner) (sym waits.4) ∙ owns in
+        let another = waits.3 in
+        absurd ((rw owned at another) refl)
+
+    other_owner : (id : CallId) → w_after.owner ≡ Some id → (id ≡ call.id → ⊥) → HasOwner clients_after id
+    other_owner id owns unlike =
+        let owned : w.owner ≡ Some id = turn_owner r s turned it.gave it.turn id owns unlike in
+        let owner : HasOwner state.clients id = subst (λ o. IfSome o (HasOwner state.clients)) owned keeps.owner in
+        owner_apart state.clients place client now found id owner
+        (λ here.
+        let same_client : owner.client ≡ client = one_of_it (slice_get state.clients place) owner.client client (rw (← here) owner.found) found in
+        let runs : client.running ≡ Some owner.call = ap (λ (c : Client). c.running) (sym same_client) ∙ owner.runs in
+        unlike (owner.own ∙ ap (λ running. (unwrap_or running (new_call client edit)).id) (sym runs)))
+
+    owner_by : (o : Option CallId) → w_after.owner ≡ o → IfSome o (HasOwner clients_after)
+    owner_by None is = tt
+    owner_by (Some id) is = by_own (is_call id call.id) refl
+      where
+        by_own : (b : Bool) → is_call id call.id ≡ b → HasOwner clients_after id
+        by_own true own =
+            let same : id ≡ call.id = same_call id call.id own in
+            rw same (own_owner it.gave now (behind client it.call_after it.gave now it.now) it.turn (is ∙ ap (λ (x : CallId). Some x) same))
+        by_own false own = other_owner id is (λ same. never (sym own ∙ (rw same (itself call.id))))
+
+    pub turn_keeps : RunInvariant r s (record { shared = shared_after; clients = clients_after })
+    turn_keeps =
+        let due : most_of s.folder.count w_after.tally.due ≡ s.folder.most = own.due s.folder.count ∙ keeps.due in
+        record {
+          clients =
+              λ other c is.
+              elim (found_then state.clients place other now c is) [
+                | inl here ↦ (rw (here.0, here.1) (client_behind it.gave now (behind client it.call_after it.gave now it.now) it.turn))
+                | inr there ↦ client_stays other c there.0 there.1
+              ];
+          entries = rw own.adds all_entries;
+          owner = owner_by w_after.owner refl;
+          faults = own.count ∙ rw ((none_before s most w.tally.due keeps.due).0, own.adds, none_counted is_folder_fault w.history more peace.faults own.faults) refl;
+          struck = rw most (rw own.count omega arith);
+          due = due;
+          deaths = λ before e behind is dead. never (sym (none_at dies w_after.history (length before) e alive_after (rw is (found_between before e behind))) ∙ dead);
+          left = rw (own.deaths, peace.deaths) (All-nil (Contains s.deaths));
+          built = rw own.adds (none_in_both comes_later w.history more keeps.built own.built);
+        }

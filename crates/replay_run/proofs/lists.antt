@@ -1,0 +1,6 @@
+-- Lemmas on lists.
+pub mod JoinedLemmas
+pub mod OptionLemmas
+pub mod SetLemmas
+pub mod SetViews
+pub mod StandLemmas

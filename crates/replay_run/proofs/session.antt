@@ -1,0 +1,10 @@
+-- The code makes a run.
+pub mod ClientTurns
+pub mod NamesTold
+pub mod OpeningLemmas
+pub mod SessionAsked
+pub mod SessionLines
+pub mod SessionRun
+pub mod SessionTurns
+pub mod ShelfOpening
+pub mod ToldLines

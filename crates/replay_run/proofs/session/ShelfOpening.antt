@@ -1,0 +1,147 @@
+-- The shelf of a script's first session, and the session that begins with it.
+use Rattle.std.proofs.Common.{◌≡◌, ◌∙◌, ◌<◌, ℕ, true, false, All, List, [], ◌∷◌, length, Option, Some, None, refl, sym, ap, subst, arith}
+use Rattle.std.proofs.lemmas.List.Elements.{All-weaker}
+use Rattle.store_traits.specs.declared.ids.NodeId.{NodeId}
+use Rattle.folder_disk.specs.Contents.{Contents, Gone, Images, Starts}
+use Rattle.folder_disk.specs.contracts.mem_folder.MemFolderFolder.TheImpl as folder
+use Rattle.folder_disk.specs.declared.mem_folder.MemFolder.{MemFolder}
+use Rattle.folder_disk.specs.MainRead.{main_of}
+use Rattle.folder_disk.specs.MemFolder as mem
+use Rattle.folder_disk.specs.Tally.{StartsTally, Tally, most_of}
+use Rattle.hist_journal.specs.declared.seen.BaseSeen.{BaseSeen}
+use Rattle.hist_journal.specs.Folds.{raises_of}
+use Rattle.prefs_edit.specs.contracts.edit.EditTransform.TheImpl as edit
+use Rattle.prefs_proto.specs.contracts.prefs_codec.PrefsCodecCodec.TheImpl as codec
+use Rattle.prefs_proto.specs.declared.prefs_codec.PrefsCodec.{PrefsCodec}
+use Rattle.prefs_proto.specs.Reads.{Reads}
+use Rattle.shelf.specs.declared.shelf.Shelf.{Shelf}
+use Rattle.shelf.specs.AddsNode.{is_among}
+use Rattle.shelf.specs.Base.{HasItsBase, ReadsAs}
+use Rattle.shelf.specs.Opening.{Opens}
+use Rattle.shelf.specs.ShelfSeen.{ShelfSeen, shelf_seen}
+use Rattle.node_core.specs.Views.{world_seen}
+use Rattle.script_lang.specs.declared.script.Script.{Script}
+use Rattle.script_lang.specs.declared.session_plan.SessionPlan.{SessionPlan}
+use Rattle.script_lang.specs.Chronicle.{due_of, nodes_of, tally_of}
+use Rattle.script_lang.specs.Keeps.{IsPlain, Keeps}
+use Rattle.replay_run.specs.declared.client.Client as own
+use Rattle.replay_run.specs.declared.prefs_parts.PrefsParts.{PrefsParts}
+use Rattle.replay_run.specs.declared.running_session.RunningSession.{RunningSession}
+use Rattle.replay_run.specs.NewClients.{AreNew}
+use Rattle.replay_run.specs.PrefsBasis.{prefs_basis}
+use Rattle.replay_run.specs.RunInvariant.{RunInvariant}
+use Rattle.replay_run.specs.RunState.{RunState}
+use Rattle.replay_run.specs.SessionInvariant.{SessionInvariant}
+use Rattle.replay_run.specs.SessionSteps.{IsOpened, IsStoreOf}
+use Rattle.replay_run.specs.SessionView.{EquippedIn, rules_in, shared_in, state_in, store_in}
+use Rattle.replay_run.specs.Settings.{Change, PrefStore, Value}
+use Rattle.replay_run.specs.ShelfOpens.{ShelfOpens, first_nodes, with_nodes}
+use Rattle.replay_run.specs.Start.{start_of, world_of}
+use Rattle.replay_run.proofs.keeping.StepsKeep.{start_keeps}
+use Rattle.replay_run.proofs.session.OpeningLemmas.{among_first, homes_are, nodes_numbered}
+
+abbrev SettingsShelf : Type 0
+SettingsShelf = Shelf (PrefsParts MemFolder) PrefsCodec Change MemFolder Value codec.ghosts edit.ghosts folder.ghosts
+
+abbrev Seen : Type 0
+Seen = ShelfSeen PrefsCodec MemFolder Value Change
+
+no_raise : raises_of {V = Value} {T = Change} [] ≡ 0
+unfolding raises_of
+no_raise = refl
+
+-- a plain plan lets no call of the folder fail
+none_planned : (plan : SessionPlan) → IsPlain plan → most_of 0 (due_of plan) ≡ Some 0
+none_planned plan plain = ap (λ (plan : SessionPlan). most_of 0 (due_of plan)) plain
+
+-- the shelf is that of a new folder, which has the script's file
+module _ (script : Script) (unreplaced : script.start.replace ≡ false) (shelf : SettingsShelf) (first : MemFolder) (base : BaseSeen Value)
+    (opens : Opens true (mem.contents_of first) (mem.tally_of first) 1048576 (record { entries = script.start.entries; weight = 268435456 }) base (shelf_seen shelf)) (starts : Starts (mem.contents_of first) (mem.contents_of shelf.folder))
+    (tallies : StartsTally true (mem.tally_of first) (mem.tally_of shelf.folder)) (contents : mem.contents_of first ≡ mem.fresh_contents (main_of script.start.file)) (tally : mem.tally_of first ≡ mem.fresh_tally [])
+    (reads : ReadsAs Reads [] 1048576 (mem.contents_of first).main base) where
+  abbrev s : PrefStore
+  s = store_in shelf
+
+  main_is : s.main ≡ main_of script.start.file
+  main_is = opens.main refl ∙ ap (λ (c : Contents). c.main) contents
+
+  count_is : s.folder.count ≡ 0
+  count_is = opens.count ∙ ap (λ (t : Tally). t.count) tally
+
+  none_is : s.folder.most ≡ Some 0
+  none_is = tallies.most refl ∙ ap (λ (t : Tally). most_of t.count t.due) tally
+
+  -- a stop could leave nothing but main
+  kept_alone : (mem.contents_of first).kept ≡ Images ((mem.contents_of first).main ∷ [])
+  kept_alone = ap (λ (c : Contents). c.kept) contents ∙ ap (λ (main : Option (List ℕ)). Images (main ∷ [])) (sym (ap (λ (c : Contents). c.main) contents))
+
+  -- main stands alone there, as it did in the new folder; the tally is that folder's
+  world_starts : (plan : SessionPlan) → IsPlain plan → (shared_in shelf).world ≡ world_of (tally_of s.folder.count plan) s
+  world_starts plan plain =
+      let now : Contents = mem.contents_of shelf.folder in
+      let main : now.main ≡ s.main = starts.main ∙ sym (opens.main refl) in
+      let scratch : now.scratch ≡ Gone = starts.scratch ∙ ap (λ (c : Contents). c.scratch) contents in
+      let kept : now.kept ≡ Images (s.main ∷ []) = starts.kept ∙ (kept_alone ∙ ap (λ (main : Option (List ℕ)). Images (main ∷ [])) (sym (opens.main refl))) in
+      let first_main : now.first ≡ s.main = starts.first ∙ sym (opens.main refl) in
+      let alone : now.alone ≡ true = starts.alone.1 kept_alone in
+      let fresh : (mem.tally_of first).due ≡ due_of plan = ap (λ (t : Tally). t.due) tally ∙ sym (ap due_of plain) in
+      let count : (mem.tally_of shelf.folder).count ≡ s.folder.count = tallies.count ∙ sym opens.count in
+      let due : (mem.tally_of shelf.folder).due ≡ due_of plan = tallies.due refl ∙ fresh in
+      let most : (mem.tally_of shelf.folder).most ≡ most_of s.folder.count (due_of plan) =
+      tallies.most refl ∙ (ap (λ (n : ℕ). most_of n (mem.tally_of first).due) (sym opens.count) ∙ ap (most_of s.folder.count) fresh) in
+      rw (main, scratch, kept, first_main, alone, count, most, due, opens.owner, opens.list, no_raise) refl
+
+  based : HasItsBase Reads [] s
+  based = rw (opens.file, opens.main refl, opens.base_now) reads
+
+  stores : IsStoreOf prefs_basis script (record s { nodes = nodes_of script })
+  stores plan told plain same =
+      let deaths : plan.deaths ≡ [] = ap (λ (p : SessionPlan). p.deaths) plain in
+      let alone : s.alone ≡ true = (opens.alone refl).1 kept_alone in
+      rw (same, unreplaced, opens.file, opens.history, deaths, main_is, count_is, none_is, none_planned plan plain, alone) refl
+
+  pub shelf_opens : ShelfOpens prefs_basis script shelf
+  shelf_opens = record { starts = world_starts; base = based; count = count_is; spare = none_is; nodes = opens.nodes; store = stores }
+
+-- the nodes are added, and there are new clients
+module _ (script : Script) (session : RunningSession) (first : SettingsShelf) (count : ℕ) (keeps : Keeps script) (opens : ShelfOpens prefs_basis script first)
+    (added : shelf_seen session.shelf ≡ with_nodes (shelf_seen first) (first_nodes count)) (counted : count ≡ length script.names.nodes) (new : AreNew script.homes session.clients.items) (unused : session.word ≡ 0) where
+  abbrev store : PrefStore
+  store = store_in session.shelf
+
+  seen : shelf_seen session.shelf ≡ with_nodes (shelf_seen first) (nodes_of script)
+  seen = added ∙ ap (λ (nodes : List NodeId). with_nodes (shelf_seen first) nodes) (ap first_nodes counted ∙ sym (nodes_numbered 0 script.names.nodes))
+
+  spare : store.folder.most ≡ Some 0
+  spare = ap (λ (s : Seen). s.store.folder.most) seen ∙ opens.spare
+
+  starts_now : (plan : SessionPlan) → IsPlain plan → state_in session ≡ start_of [] (tally_of store.folder.count plan) store script.homes
+  starts_now plan plain =
+      let world : (shared_in session.shelf).world ≡ world_of (tally_of store.folder.count plan) store =
+      subst (λ (s : Seen). world_seen folder.ghosts s ≡ world_of (tally_of s.store.folder.count plan) s.store) (sym seen) (opens.starts plan plain) in
+      rw (world, new.seen) refl
+
+  at_home : All (λ (home : NodeId). is_among home store.nodes ≡ true) script.homes
+  at_home =
+      All-weaker (λ (home : NodeId). home.0 < length script.names.nodes) (λ (home : NodeId). is_among home store.nodes ≡ true)
+      (λ home below. ap (λ (s : Seen). is_among home s.store.nodes) added ∙ among_first count home (omega (arith, below, counted))) script.homes keeps.homes.declared
+
+  session_keeps : SessionInvariant session
+  session_keeps =
+      let plan : SessionPlan = keeps.built.plan in
+      let start : state_in session ≡ start_of [] (tally_of store.folder.count plan) store script.homes = starts_now plan keeps.built.plain in
+      let none : store.folder.count ≡ 0 = ap (λ (s : Seen). s.store.folder.count) seen ∙ opens.count in
+      record {
+        state =
+            subst (RunInvariant (rules_in session.shelf) store) (sym start)
+            (start_keeps (rules_in session.shelf) store spare [] (tally_of store.folder.count plan) script.homes refl (rw none (none_planned plan keeps.built.plain ∙ sym spare)));
+        spare = spare;
+        number = unused ∙ sym (ap (λ (state : RunState). state.shared.world.version) start);
+        nodes = homes_are (λ (home : NodeId). is_among home store.nodes ≡ true) session.clients.items script.homes new.seen at_home;
+        equipped =
+            All-weaker (λ (client : own.Client). client.running ≡ None) (λ (client : own.Client). EquippedIn session.shelf client)
+            (λ client none. rw none tt) session.clients.items new.rest;
+      }
+
+  pub is_opened : IsOpened script session
+  is_opened = record { start = starts_now; store = subst (λ (s : Seen). IsStoreOf prefs_basis script s.store) (sym seen) opens.store; keeps = session_keeps }

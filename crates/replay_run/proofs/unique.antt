@@ -1,0 +1,3 @@
+mod OneStep
+mod OneRun
+pub mod OneTranscript

@@ -1,0 +1,3 @@
+pub mod RunLemmas
+mod TurnsLeft
+pub mod WorkLemmas

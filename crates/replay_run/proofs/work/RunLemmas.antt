@@ -1,0 +1,61 @@
+-- Runs grow at their end: by a step, a round, a line.
+use Rattle.std.proofs.Common.{◌≡◌, ◌+◌, ℕ, suc, zero, List, [], ◌∷◌, ◌++◌, refl, subst, arith}
+use Rattle.script_lang.specs.declared.run_line.RunLine.{RunLine}
+use Rattle.shelf.specs.declared.store.Store.{Store}
+use Rattle.replay_run.specs.Lines.{Follows, FollowsAll, StepsTimes}
+use Rattle.replay_run.specs.Rounds.{Round, Rounds, StepsEach}
+use Rattle.replay_run.specs.RunState.{RunState}
+use Rattle.replay_run.specs.Settings.{PrefRules, Value}
+use Rattle.replay_run.specs.Steps.{StepsAt}
+
+module _ (r : PrefRules) {M : Type 0} (s : Store Value M) where
+  times_push : (place n : ℕ) (old mid new : RunState) → StepsTimes r s place n old mid → StepsAt r s place mid new → StepsTimes r s place (suc n) old new
+  unfolding StepsTimes
+  times_push place zero old mid new times goes = (new, subst (λ x. StepsAt r s place x new) times goes, refl)
+  times_push place (suc n) old mid new times goes = (times.0, times.1, times_push place n times.0 mid new times.2 goes)
+
+  pub times_more : (place n : ℕ) (old mid new : RunState) → StepsTimes r s place n old mid → StepsAt r s place mid new → StepsTimes r s place (n + 1) old new
+  times_more place n old mid new times goes =
+      let same : suc n ≡ n + 1 = omega arith in
+      subst (λ k. StepsTimes r s place k old new) same (times_push place n old mid new times goes)
+
+  pub times_none : (place : ℕ) (state : RunState) → StepsTimes r s place 0 state state
+  unfolding StepsTimes
+  times_none place state = refl
+
+  each_push : (first n : ℕ) (old mid new : RunState) → StepsEach r s first n old mid → StepsAt r s (first + n) mid new → StepsEach r s first (suc n) old new
+  unfolding StepsEach
+  each_push first zero old mid new each goes =
+      let same : first + 0 ≡ first = omega arith in
+      (new, subst (λ k. StepsAt r s k old new) same (subst (λ x. StepsAt r s (first + 0) x new) each goes), refl)
+  each_push first (suc n) old mid new each goes =
+      let same : first + suc n ≡ first + 1 + n = omega arith in
+      (each.0, each.1, each_push (first + 1) n each.0 mid new each.2 (subst (λ k. StepsAt r s k mid new) same goes))
+
+  pub each_more : (n : ℕ) (old mid new : RunState) → StepsEach r s 0 n old mid → StepsAt r s n mid new → StepsEach r s 0 (n + 1) old new
+  each_more n old mid new each goes =
+      let same : suc n ≡ n + 1 = omega arith in
+      let here : n ≡ 0 + n = omega arith in
+      subst (λ k. StepsEach r s 0 k old new) same (each_push 0 n old mid new each (subst (λ k. StepsAt r s k mid new) here goes))
+
+  pub each_none : (place : ℕ) (state : RunState) → StepsEach r s place 0 state state
+  unfolding StepsEach
+  each_none place state = refl
+
+  pub rounds_push : (n : ℕ) (old mid new : RunState) → Rounds r s n old mid → Round r s mid new → Rounds r s (suc n) old new
+  unfolding Rounds
+  rounds_push zero old mid new rounds round = (new, subst (λ x. Round r s x new) rounds round, refl)
+  rounds_push (suc n) old mid new rounds round = (rounds.0, rounds.1, rounds_push n rounds.0 mid new rounds.2 round)
+
+  pub rounds_none : (state : RunState) → Rounds r s 0 state state
+  unfolding Rounds
+  rounds_none state = refl
+
+  pub follows_push : (lines : List RunLine) (line : RunLine) (old mid new : RunState) → FollowsAll r s lines old mid → Follows r s line.client.0 line.act mid new → FollowsAll r s (lines ++ line ∷ []) old new
+  unfolding FollowsAll
+  follows_push [] line old mid new all follows = (new, subst (λ x. Follows r s line.client.0 line.act x new) all follows, refl)
+  follows_push (first ∷ lines) line old mid new all follows = (all.0, all.1, follows_push lines line all.0 mid new all.2 follows)
+
+  pub follows_none : (state : RunState) → FollowsAll r s [] state state
+  unfolding FollowsAll
+  follows_none state = refl

@@ -1,0 +1,198 @@
+-- Each step of a client that does not wait leaves less to do, and in each round somebody does one.
+use Rattle.std.proofs.Common.{◌≡◌, ◌∙◌, ◌⊎◌, inl, inr, ◌≤◌, ◌<◌, ◌+◌, ◌-◌, ◌*◌, ◌==◌, ◌||◌, ℕ, Bool, true, false, length, [], Option, Some, None, IfSome, is_some, slice_get, slice_set, slice_index_or, refl, sym, ap, subst, arith}
+use Rattle.std.proofs.lemmas.Bool.{eqb-true, eqb-false as apart_of}
+use Rattle.std.proofs.lemmas.List.Folds.{list_any_none}
+use Rattle.std.proofs.lemmas.Option.{slice_get-get_or, slice_get_within}
+use Rattle.store_traits.specs.declared.ids.CallId.{CallId}
+use Rattle.store_traits.specs.declared.ids.NodeId.{NodeId}
+use Rattle.hist_journal.specs.Nodes.{is_ready}
+use Rattle.shelf.specs.declared.store.Store.{Store}
+use Rattle.shelf.proofs.Bools.{never}
+use Rattle.shelf.proofs.DeathLemmas.{none_of_node}
+use Rattle.step_table.specs.Calls.{At, First, Reply, is_first}
+use Rattle.step_table.specs.Turn.{Turn}
+use Rattle.step_table.specs.World.{Turned}
+use Rattle.step_table.specs.declared.progress.Progress.{Progress}
+use Rattle.step_table.proofs.Applying.{entries_of}
+use Rattle.step_table.proofs.Waiting.{turn_waits}
+use Rattle.node_core.specs.Phases.{is_finishing, is_holding}
+use Rattle.node_core.specs.StepsLeft.{steps_left}
+use Rattle.node_core.proofs.KeepingLemmas.{turn_stays}
+use Rattle.node_core.proofs.MovingLemmas.{has_left}
+use Rattle.node_core.proofs.ReadinessLemmas.{stays_ready, turn_finds}
+use Rattle.node_core.proofs.StepsLemmas.{turn_steps}
+use Rattle.script_lang.specs.declared.run_line.Act.{Act}
+use Rattle.script_lang.specs.declared.run_line.Act.TheVariants as act
+use Rattle.replay_run.specs.ClientInvariant.{CallInvariant}
+use Rattle.replay_run.specs.Rounds.{IsOver}
+use Rattle.replay_run.specs.RunInvariant.{HasOwner, RunInvariant}
+use Rattle.replay_run.specs.RunState.{Client, RunState, act_now, call_now, is_busy}
+use Rattle.replay_run.specs.Settings.{Change, PrefCall, PrefRules, PrefWorld, Value}
+use Rattle.replay_run.specs.Steps.{StepsAt, StepsBy}
+use Rattle.replay_run.specs.WorkLeft.{IsStill, RoundSoFar, Waits, client_left, work_left}
+use Rattle.replay_run.proofs.keeping.BehindTurns.{Behind, behind, blocked, ended, moved}
+use Rattle.replay_run.proofs.keeping.CallKept.{call_kept}
+use Rattle.replay_run.proofs.keeping.OwnTurns.{own_turn}
+use Rattle.replay_run.proofs.keeping.Peaceful.{is_peaceful}
+use Rattle.replay_run.proofs.lists.OptionLemmas.{one_of_it}
+use Rattle.replay_run.proofs.lists.SetLemmas.{others_found}
+use Rattle.replay_run.proofs.work.TurnsLeft.{answered_left, client_least, left_least, sum_with}
+
+first_holds_none : (at : At Value Change) → is_first at ≡ true → is_holding at ≡ false
+first_holds_none (First edit) first = refl
+first_holds_none other first = never first
+
+some_owner : (owner : Option CallId) → (owner ≡ None → ⊥) → (other : CallId) × (owner ≡ Some other)
+some_owner None owned = absurd (owned refl)
+some_owner (Some owner) owned = (owner, refl)
+
+-- nothing came of the step: the client has nothing to do, or waits for another
+record IsIdle (limit : ℕ) (client : Client) (old new : RunState) : Type 0 where
+  pub world : new.shared.world ≡ old.shared.world
+  pub work : work_left limit new ≤ work_left limit old
+  pub why : (is_busy client ≡ false) ⊎ Waits old client
+
+abbrev FallsOrIdles : ℕ → Client → RunState → RunState → Type 0
+FallsOrIdles limit client old new = (work_left limit new < work_left limit old) ⊎ IsIdle limit client old new
+
+module _ (r : PrefRules) {M : Type 0} (s : Store Value M) (unplanned : s.deaths ≡ []) (most : s.folder.most ≡ Some 0) where
+  abbrev limit : ℕ
+  limit = s.limits.file
+
+  module _ (place : ℕ) (old new : RunState) (it : StepsAt r s place old new) (keeps : RunInvariant r s old) (told : old.shared.world.told ≡ true) where
+    abbrev IsLess : Client → Type 0
+    IsLess now = client_left limit new.shared.world now < client_left limit old.shared.world it.client
+
+    module _ (edit : Change) (asked : act_now it.client ≡ Some (act.Update edit)) where
+      abbrev call : PrefCall
+      call = call_now it.client edit
+
+      kept : CallInvariant r s it.client old.shared.world call
+      kept = call_kept r s old place it.client it.was keeps edit asked
+
+      -- behind the call
+      abbrev rest : ℕ
+      rest = (length it.client.asked - length it.client.answered - 1) * (limit + 11)
+
+      left_is : client_left limit old.shared.world it.client ≡ steps_left limit (is_ready it.client.node old.shared.world.history) call.at + rest
+      left_is = rw asked refl
+
+      module _ (call_after : PrefCall) where
+        abbrev taken : Turned Value Change
+        taken = record { world = old.shared.world; call = call; world_after = new.shared.world; call_after = call_after }
+
+        grows : (gave : Progress (Reply Value)) → Turn r s taken gave → (node : NodeId) → is_ready node old.shared.world.history ≡ true → is_ready node new.shared.world.history ≡ true
+        grows gave turn node is =
+            let own = own_turn r s taken (is_peaceful s unplanned most r old keeps) gave turn told kept.knows.plan in
+            rw own.adds (stays_ready node old.shared.world.history (entries_of call.id turn.effect.kinds) (none_of_node node (entries_of call.id turn.effect.kinds) own.alive) is)
+
+        falls : (now : Client) (gave : Progress (Reply Value)) → Turn r s taken gave → new.clients ≡ slice_set old.clients place now → IsLess now → work_left limit new < work_left limit old
+        falls now gave turn clients less =
+            let sum = sum_with (client_left limit old.shared.world) (client_left limit new.shared.world) (client_least limit old.shared.world new.shared.world (grows gave turn)) old.clients place now it.client it.was in
+            rw clients (omega (arith, sum, less))
+
+        turned : (gave : Progress (Reply Value)) (now : Client) → Behind it.client call_after gave now → Turn r s taken gave → new.clients ≡ slice_set old.clients place now → FallsOrIdles limit it.client old new
+        turned gave now moved turn clients =
+            let ready = is_ready it.client.node old.shared.world.history in
+            let ready_now = is_ready it.client.node new.shared.world.history in
+            let node : call.id.node ≡ it.client.node = ap (λ (id : CallId). id.node) kept.id in
+            let steps = turn_steps r s ready taken turn kept.knows (λ is first. rw node is) in
+            let least = left_least limit call_after.at (ready || is_finishing call.at) ready_now (λ first is. rw (← node) (turn_finds r s taken turn first)) in
+            let less : IsLess now = rw (left_is, asked) (omega (arith, steps, least)) in
+            inl (falls now gave turn clients less)
+        turned gave now blocked turn clients =
+            let waits = turn_waits r s taken turn in
+            let at : call_after.at ≡ call.at = ap (λ (c : PrefCall). c.at) (turn_stays r s taken turn).1 in
+            let owner = some_owner old.shared.world.owner (λ none. (let another = waits.3 in rw none at another)) in
+            let same : client_left limit old.shared.world now ≡ client_left limit old.shared.world it.client = rw (asked, at) refl in
+            let sum = sum_with (client_left limit old.shared.world) (client_left limit old.shared.world) (λ c. omega arith) old.clients place now it.client it.was in
+            inr
+            (record {
+              world = waits.4;
+              work = rw (waits.4, clients) (omega (arith, sum, same));
+              why =
+                  inr
+                  (record {
+                    owner = owner.0;
+                    owned = owner.1;
+                    holds_none = λ running is. (let first : is_first call.at ≡ true = waits.2 in first_holds_none running.at (rw is at first));
+                  });
+            })
+        turned gave now (ended {answer = answer} tells) turn clients =
+            let behind = answered_left limit new.shared.world it.client (record { call = call_after.id; poster = None; answer = answer }) in
+            let some = has_left limit (is_ready it.client.node old.shared.world.history) call.at kept.goes_on in
+            let less : IsLess now = rw left_is (omega (arith, behind, some)) in
+            inl (falls now gave turn clients less)
+
+    by_act : (at : Option Act) → act_now it.client ≡ at → StepsBy r s at it.client old.shared it.client_after new.shared → FallsOrIdles limit it.client old new
+    by_act (Some (act.Update edit)) asked a = turned edit asked a.call_after a.gave it.client_after (behind it.client a.call_after a.gave it.client_after a.now) a.turn it.now
+    by_act (Some other) asked a = absurd a
+    by_act None asked a =
+        let sum = sum_with (client_left limit old.shared.world) (client_left limit old.shared.world) (λ c. omega arith) old.clients place it.client it.client it.was in
+        inr (record { world = rw a.1 refl; work = rw (a.1, it.now, a.0) (omega (arith, sum)); why = inl (rw asked refl) })
+
+    -- each step leaves less to do, or nothing comes of it
+    steps_fall : FallsOrIdles limit it.client old new
+    steps_fall = by_act (act_now it.client) refl it.steps
+
+  -- a round from this state
+  module _ (start : RunState) where
+    abbrev SoFar : ℕ → RunState → Type 0
+    SoFar place now = RoundSoFar limit start place now
+
+    pub round_begins : SoFar 0 start
+    round_begins = inr (record { world = refl; work = omega arith; others = λ other later. refl; waited = λ other client earlier found. absurd (omega (arith, earlier)) })
+
+    module _ (place : ℕ) (now after : RunState) (it : StepsAt r s place now after) where
+      -- so it is with the client that had its step, and with those before it
+      waited_so : ((is_busy it.client ≡ false) ⊎ Waits start it.client) → IsStill limit start place now → (other : ℕ) (c : Client) → other < place + 1 → slice_get start.clients other ≡ Some c → (is_busy c ≡ false) ⊎ Waits start c
+      waited_so so still other c earlier there = by_place (other == place) refl
+        where
+          by_place : (b : Bool) → (other == place) ≡ b → (is_busy c ≡ false) ⊎ Waits start c
+          by_place true is =
+              let here : other ≡ place = eqb-true other place is in
+              let same : it.client ≡ c = one_of_it (slice_get now.clients place) it.client c it.was (still.others place (omega arith) ∙ (rw (← here) there)) in
+              rw (← same) so
+          by_place false is = still.waited other c (omega (arith, earlier, apart_of other place is)) there
+
+      since_start : IsStill limit start place now → ((is_busy it.client ≡ false) ⊎ Waits now it.client) → (is_busy it.client ≡ false) ⊎ Waits start it.client
+      since_start still (inl nothing) = inl nothing
+      since_start still (inr w) = inr (record { owner = w.owner; owned = ap (λ (x : PrefWorld). x.owner) (sym still.world) ∙ w.owned; holds_none = w.holds_none })
+
+      goes_on : FallsOrIdles limit it.client now after → SoFar place now → SoFar (place + 1) after
+      goes_on (inl falls) (inl less) = inl (omega (arith, falls, less))
+      goes_on (inl falls) (inr still) = inl (omega (arith, falls, still.work))
+      goes_on (inr idle) (inl less) = inl (omega (arith, idle.work, less))
+      goes_on (inr idle) (inr still) =
+          inr
+          (record {
+            world = idle.world ∙ still.world;
+            work = omega (arith, idle.work, still.work);
+            others = λ other later. ap (λ c. slice_get c other) it.now ∙ (others_found now.clients place other it.client_after (λ same. omega (arith, later, same)) ∙ still.others other (omega (arith, later)));
+            waited = waited_so (since_start still idle.why) still;
+          })
+
+      -- the client at this place has its step
+      pub round_goes_on : RunInvariant r s now → now.shared.world.told ≡ true → SoFar place now → SoFar (place + 1) after
+      round_goes_on keeps told so_far = goes_on (steps_fall place now after it keeps told) so_far
+
+    -- behind a round nobody had anything to do, or there is less to do
+    pub round_falls : (now : RunState) → RunInvariant r s start → SoFar (length start.clients) now → IsOver start ⊎ (work_left limit now < work_left limit start)
+    round_falls now keeps (inl less) = inr less
+    round_falls now keeps (inr still) = inl (list_any_none is_busy start.clients (λ k d within. idle k (slice_index_or start.clients k d) (slice_get-get_or start.clients k d within)))
+      where
+        -- the owner of the lock holds it, and so does not wait
+        owned : (owner : CallId) → HasOwner start.clients owner → ⊥
+        owned owner has =
+            let kept : CallInvariant r s has.client start.shared.world has.call = subst (λ o. IfSome o (CallInvariant r s has.client start.shared.world)) has.runs (keeps.clients has.place has.client has.found).running in
+            elim (still.waited has.place has.client (slice_get_within start.clients has.place has.client has.found) has.found) [
+              | inl nothing ↦ never (sym nothing ∙ ap (λ o. is_some o) kept.asked)
+              | inr waits ↦ never (sym (waits.holds_none has.call has.runs) ∙ has.holds)
+            ]
+
+        idle : (place : ℕ) (client : Client) → slice_get start.clients place ≡ Some client → is_busy client ≡ false
+        idle place client found =
+            elim (still.waited place client (slice_get_within start.clients place client found) found) [
+              | inl nothing ↦ nothing
+              | inr waits ↦ absurd (owned waits.owner (subst (λ o. IfSome o (HasOwner start.clients)) waits.owned keeps.owner))
+            ]

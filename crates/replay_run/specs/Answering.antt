@@ -1,0 +1,36 @@
+-- How the reply to a call is told in a transcript, and what it leaves of the client.
+use Rattle.std.specs.Prelude.{[], ◌∷◌, ◌++◌, Option, Some, None, option_map}
+use Rattle.store_traits.specs.declared.update_error.UpdateError.{UpdateError}
+use Rattle.store_traits.specs.declared.update_error.UpdateError.TheVariants as error
+use Rattle.prefs_text.specs.declared.seen.AnswerSeen.{AnswerSeen}
+use Rattle.prefs_text.specs.declared.seen.AnswerSeen.TheVariants as seen
+use Rattle.step_table.specs.Calls.{Reply, Updated, Gave, Failed}
+use Rattle.step_table.specs.declared.progress.Progress.{Progress}
+use Rattle.step_table.specs.declared.progress.Progress.TheVariants.{Ended}
+use Rattle.replay_run.specs.RunState.{Client}
+use Rattle.replay_run.specs.Settings.{PrefCall, Value}
+
+-- want of memory is told by no line: it ends a run without a transcript
+abbrev pub error_told : UpdateError → Option AnswerSeen
+error_told (error.Refused code edition) = Some (seen.Refused code edition)
+error_told error.Corrupt = Some seen.Corrupt
+error_told (error.FileTooLong len) = Some (seen.FileTooLong len)
+error_told (error.ValueTooLong len) = Some (seen.ValueTooLong len)
+error_told (error.HistoryFull entries weight) = Some (seen.HistoryFull entries weight)
+error_told (error.StorageFault place) = Some (seen.StorageFault place)
+error_told (error.NotDurable place) = Some (seen.NotDurable place)
+error_told (error.LegacyFault place) = Some (seen.LegacyFault place)
+error_told (error.Died place) = Some (seen.Died place)
+error_told error.NoMemory = None
+
+-- what an update is answered; reads join with their lines
+abbrev pub reply_told : Reply Value → Option AnswerSeen
+reply_told (Updated edition) = Some (seen.Updated edition)
+reply_told (Failed error) = error_told error
+reply_told (Gave edition value) = None
+
+-- the client behind a turn of its call: a line of the answer joins the others, or the call goes on
+abbrev pub behind_turn : Client → PrefCall → Progress (Reply Value) → Option Client
+behind_turn client call (Ended reply) =
+    option_map (λ answer. record client { running = None; answered = client.answered ++ record { call = call.id; poster = None; answer = answer } ∷ [] }) (reply_told reply)
+behind_turn client call gave = Some (record client { running = Some call })

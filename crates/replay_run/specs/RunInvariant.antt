@@ -1,0 +1,69 @@
+-- What holds between the steps of a run.
+use Rattle.std.specs.Prelude.{◌≡◌, ◌≤◌, ◌<◌, ◌+◌, ℕ, Bool, true, false, List, All, Contains, Some, IfSome, slice_get, length, count_by, if◌then◌else◌, is_some}
+use Rattle.std.specs.List.{list_any}
+use Rattle.store_traits.specs.declared.ids.CallId.{CallId}
+use Rattle.folder_disk.specs.Tally.{most_of}
+use Rattle.hist_journal.specs.declared.device.Device.TheVariants.{Folder, Legacy}
+use Rattle.hist_journal.specs.declared.seen.KindSeen.TheVariants.{Cleared, Fault, Migrate, Replace, Restart}
+use Rattle.prefs_text.specs.EntryText.{PrefEntry, PrefKind}
+use Rattle.shelf.specs.declared.store.Store.{Store}
+use Rattle.shelf.specs.Each.{Each}
+use Rattle.shelf.specs.Entries.{is_death}
+use Rattle.shelf.specs.Places.{is_fault_of}
+use Rattle.node_core.specs.Phases.{is_holding}
+use Rattle.node_core.specs.Reading.{ReadsTruly}
+use Rattle.script_lang.specs.GoodFailures.{IsPlanned}
+use Rattle.replay_run.specs.ClientInvariant.{ClientInvariant}
+use Rattle.replay_run.specs.RunState.{Client, RunState, call_at}
+use Rattle.replay_run.specs.Settings.{PrefCall, PrefRules, PrefWorld, Value}
+
+-- so many of its calls have begun
+abbrev pub begun : Client → ℕ
+begun client = length client.answered + (if is_some client.running then 1 else 0)
+
+-- the entry is of a call that has begun
+pub record IsOfCall (clients : List Client) (e : PrefEntry) : Type 0 where
+  pub client : Client
+  pub found : slice_get clients e.who.client.0 ≡ Some client
+  pub place : ℕ
+  pub who : e.who ≡ call_at client place
+  pub begun : place < begun client
+
+-- the owner of the lock is a call that runs, and holds it
+pub record HasOwner (clients : List Client) (owner : CallId) : Type 0 where
+  pub place : ℕ
+  pub client : Client
+  pub call : PrefCall
+  pub found : slice_get clients place ≡ Some client
+  pub runs : client.running ≡ Some call
+  pub own : owner ≡ call.id
+  pub holds : is_holding call.at ≡ true
+
+-- no step that is built adds these: they are of restarts, old settings and handlers
+abbrev pub is_later_work : PrefKind → Bool
+is_later_work (Restart node) = true
+is_later_work (Migrate names value) = true
+is_later_work (Cleared name) = true
+is_later_work (Replace value) = true
+is_later_work (Fault Legacy count) = true
+is_later_work other = false
+
+module _ (r : PrefRules) {M : Type 0} (s : Store Value M) where
+  pub record RunInvariant (state : RunState) : Type 0 where
+    pub clients : (place : ℕ) (client : Client) → slice_get state.clients place ≡ Some client → ClientInvariant r s place state.shared.world client
+    pub entries : All (IsOfCall state.clients) state.shared.world.history
+    pub owner : IfSome state.shared.world.owner (HasOwner state.clients)
+    -- there are as many Faults as calls of the folder that failed, and no more than were planned to
+    pub faults : state.shared.world.tally.count ≡ s.folder.count + count_by (λ e. is_fault_of Folder e.kind) state.shared.world.history
+    pub struck : IfSome s.folder.most (λ most. state.shared.world.tally.count ≤ most)
+    -- what is due in the folder bounds the count as it did at the start
+    pub due : most_of s.folder.count state.shared.world.tally.due ≡ s.folder.most
+    -- each Death was planned, with its step
+    pub deaths : Each (λ before e. is_death e.kind ≡ true → IsPlanned s.deaths before e.who) state.shared.world.history
+    pub left : All (Contains s.deaths) state.shared.world.deaths
+    pub built : list_any (λ e. is_later_work e.kind) state.shared.world.history ≡ false
+
+  -- the folder tells what it holds, and main reads as the value of the history
+  pub record ReadsWell (w : PrefWorld) : Type 0 where
+    pub told : w.told ≡ true
+    pub reads : ReadsTruly r s w

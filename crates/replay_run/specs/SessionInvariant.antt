@@ -1,0 +1,24 @@
+-- What holds of a session between the steps of its clients.
+use Rattle.std.specs.Prelude.{◌≡◌, ◌≤◌, ℕ, true, All, Some, map, vec_len}
+use Rattle.hist_journal.specs.Folds.{raises_of}
+use Rattle.shelf.specs.AddsNode.{is_among}
+use Rattle.shelf.specs.ShelfSeen.{shelf_seen}
+use Rattle.replay_run.specs.declared.running_session.RunningSession.{RunningSession}
+use Rattle.replay_run.specs.RunInvariant.{RunInvariant}
+use Rattle.replay_run.specs.SessionView.{EquippedIn, rules_in, state_in, store_in}
+
+pub record SessionInvariant (session : RunningSession) : Type 0 where
+  pub state : RunInvariant (rules_in session.shelf) (store_in session.shelf) (state_in session)
+  -- no call of the folder is to fail
+  pub spare : (store_in session.shelf).folder.most ≡ Some 0
+  pub number : session.word ≡ raises_of (shelf_seen session.shelf).list
+  pub nodes : All (λ client. is_among client.node (store_in session.shelf).nodes ≡ true) session.clients.items
+  pub equipped : All (λ client. EquippedIn session.shelf client) session.clients.items
+
+-- no client is asked for more updates than this
+abbrev pub AsksFew : ℕ → RunningSession → Type 0
+AsksFew most session = All (λ client. vec_len client.asked ≤ most) session.clients.items
+
+-- the clients are asked for what they were asked for
+abbrev pub AskedAlike : RunningSession → RunningSession → Type 0
+AskedAlike old new = map (λ client. client.asked) new.clients.items ≡ map (λ client. client.asked) old.clients.items

@@ -1,0 +1,27 @@
+-- What the calls of a script are about: maps of settings, and edits of them.
+use Rattle.std.specs.Prelude.{List}
+use Rattle.prefs_edit.specs.declared.edit_step.EditStep.{EditStep}
+use Rattle.prefs_model.specs.declared.pref_pair.PrefPair.{PrefPair}
+use Rattle.shelf.specs.declared.store.Store.{Store}
+use Rattle.shelf.specs.Rules.{Rules}
+use Rattle.step_table.specs.Calls.{Call}
+use Rattle.step_table.specs.World.{World}
+
+abbrev pub Value : Type 0
+Value = List PrefPair
+
+abbrev pub Change : Type 0
+Change = List EditStep
+
+abbrev pub PrefCall : Type 0
+PrefCall = Call Value Change
+
+abbrev pub PrefWorld : Type 0
+PrefWorld = World Value Change
+
+abbrev pub PrefRules : Type 1
+PrefRules = Rules Value Change
+
+-- a store without migrations of its own
+abbrev pub PrefStore : Type 0
+PrefStore = Store Value (Unit {0})
