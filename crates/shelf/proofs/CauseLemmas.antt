@@ -83,7 +83,7 @@ module _ {V T : Type 0} where
         closes = it.closes;
       }
 
-  abbrev HasFront-more : (Holds : List (EntrySeen V T) → Type 0) (list more : List (EntrySeen V T)) → HasFront Holds list → HasFront Holds (list ++ more)
+  abbrev pub HasFront-more : (Holds : List (EntrySeen V T) → Type 0) (list more : List (EntrySeen V T)) → HasFront Holds list → HasFront Holds (list ++ more)
   HasFront-more Holds list more it = record { front = it.front; back = it.back ++ more; is = ap (λ xs. xs ++ more) it.is ∙ append_assoc it.front it.back more; holds = it.holds }
 
   -- an update stays acknowledged, where no entry more is of its call

@@ -9,6 +9,10 @@ use Rattle.shelf.specs.ExampleStore.{Entry, a, b, c, n1, n2}
 abbrev pub two_nodes : List Entry
 two_nodes = a 1 (Inited n1) ∷ a 1 Raise ∷ a 1 (Edit (Add 1)) ∷ a 1 Synced ∷ b 1 (Inited n2) ∷ b 1 Raise ∷ b 1 (Edit (Add 1)) ∷ b 1 Synced ∷ []
 
+-- a node is initialised by a read, and another updates
+abbrev pub read_between : List Entry
+read_between = a 1 (Inited n1) ∷ b 1 (Inited n2) ∷ a 1 Raise ∷ a 1 (Edit (Set 1)) ∷ a 1 Synced ∷ []
+
 -- 1 is set where it is there already
 abbrev pub equal_value : List Entry
 equal_value = a 1 (Inited n1) ∷ a 1 (Same (Set 1)) ∷ a 1 Synced ∷ []

@@ -7,7 +7,10 @@ use thiserror::Error;
 /// What a call takes the lock for.
 #[derive(Clone, Copy, Debug, PartialEq, Eq)]
 pub enum Want {
+    /// To change the value.
     Update,
+    /// To read it. A node that is initialised can do so without the lock.
+    Read,
 }
 
 /// What a call that takes the lock gets.
@@ -17,7 +20,9 @@ pub enum Taken {
     Init,
     /// The lock, and the node is initialised.
     Held,
-    /// Another call owns the lock.
+    /// Nothing, and none is needed: another call owns the lock, and a read of an initialised node goes on without it.
+    Unlocked,
+    /// Another call owns the lock, and this one has to wait for it.
     Blocked,
     /// The history has so many entries of such a weight, and one of the two has reached its bound.
     HistoryFull { entries: u64, weight: u64 },

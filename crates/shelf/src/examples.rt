@@ -22,6 +22,7 @@ pub enum ExampleEdit {
 /// Each of these histories is lawful.
 pub fn histories_are_lawful()
     ensures two_nodes { Legal example.meanings example.empty lawful.two_nodes }
+    ensures read_between { Legal example.meanings example.empty lawful.read_between }
     ensures equal_value { Legal example.meanings example.holds_one lawful.equal_value }
     ensures death_after_raise { Legal example.meanings example.empty lawful.death_after_raise }
     ensures death_after_rename { Legal example.meanings example.empty lawful.death_after_rename }

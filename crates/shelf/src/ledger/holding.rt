@@ -4,7 +4,8 @@ ghost use Rattle.hist_journal.specs.declared.seen.KindSeen.TheVariants.{Inited};
 ghost use Rattle.hist_journal.specs.Quiet.{pending};
 ghost use Rattle.shelf.specs.Ledger.{freed, ledger_seen, freed_room, Enters};
 ghost use Rattle.shelf.specs.NodeStates.{has_node};
-ghost use Rattle.shelf.specs.Takes.{most_entries, TakeRow};
+ghost use Rattle.hist_journal.specs.Nodes.{is_ready};
+ghost use Rattle.shelf.specs.Takes.{most_entries, needs_lock, TakeRow};
 
 use super::Ledger;
 use crate::{Taken, Want};
@@ -18,16 +19,31 @@ const MOST_OF_INIT: u16 = 1;
 /// The most that an update can: a Raise, an Edit, and a Synced or a Fault.
 const MOST_OF_UPDATE: u16 = 3;
 
+/// The most that a read can: a Fault.
+const MOST_OF_READ: u16 = 1;
+
 impl<V: Drop, T: Drop> Ledger<V, T> {
-    /// Takes the lock, with room for the most entries that this holding can add, beside the room of each node's Death.
+    /// Takes the lock, with room for the most entries that this holding can add, beside the room of each node's Death. A
+    /// read of a node that is initialised is held up by no bound, and goes on without the lock where another call owns it.
     pub fn take(&mut self, call: CallId, want: Want) -> Taken
-        ensures { TakeRow call result (ledger_seen self.old) (ledger_seen self.new) }
+        ensures { TakeRow call want result (ledger_seen self.old) (ledger_seen self.new) }
+    {
+        if want == Want::Read && self.nodes.is_ready(call.node) {
+            return self.take_if_free(call);
+        }
+        self.take_within_bounds(call, want)
+    }
+
+    /// Of a call that has to own the lock, and may add entries as long as no bound is reached.
+    fn take_within_bounds(&mut self, call: CallId, want: Want) -> Taken
+        requires lock { needs_lock want (is_ready call.node self.old.journal.list) ≡ true }
+        ensures { TakeRow call want result (ledger_seen self.old) (ledger_seen self.new) }
     {
         if self.is_taken_from(call) {
             return Taken::Blocked;
         }
         let is_ready = self.nodes.is_ready(call.node);
-        let most = most_entries(is_ready, want);
+        let most = most_entries(want, is_ready);
         match self.journal.reserve(self.nodes.len() + u32::from(most)) {
             Ok(()) => {
                 self.lock.try_lock(call);
@@ -42,14 +58,29 @@ impl<V: Drop, T: Drop> Ledger<V, T> {
         }
     }
 
+    /// Of a read of a node that is initialised.
+    fn take_if_free(&mut self, call: CallId) -> Taken
+        requires ready { is_ready call.node self.old.journal.list ≡ true }
+        ensures { TakeRow call Want.Read result (ledger_seen self.old) (ledger_seen self.new) }
+    {
+        if self.make_room(call).is_err() {
+            return Taken::NoMemory;
+        }
+        if self.is_taken_from(call) {
+            return Taken::Unlocked;
+        }
+        self.lock.try_lock(call);
+        self.reserved = MOST_OF_READ;
+        Taken::Held
+    }
+
     /// Makes room for one entry of a call, beside all that is kept for others, also where the history is full. The owner of
-    /// the lock has it already.
+    /// the lock has it already, where it may still add an entry.
     pub fn make_room(&mut self, call: CallId) -> Result<(), AllocError>
-        requires room { self.old.lock ≡ Some call → 1 ≤ self.old.reserved }
         ensures room { OnOk result (freed_room call self.old.lock self.old.reserved + length self.old.nodes + 1 ≤ self.new.journal.room) }
         ensures same { ledger_seen self.new ≡ ledger_seen self.old }
     {
-        if self.is_owner(call) {
+        if self.reserved >= 1 && self.is_owner(call) {
             return Ok(());
         }
         self.journal
@@ -102,14 +133,12 @@ impl<V: Drop, T: Drop> Ledger<V, T> {
     }
 }
 
-fn most_entries(is_ready: bool, want: Want) -> u16
-    ensures { result ≡ most_entries is_ready }
+fn most_entries(want: Want, is_ready: bool) -> u16
+    ensures { result ≡ most_entries want is_ready }
 {
     match want {
-        Want::Update => if is_ready {
-            MOST_OF_UPDATE
-        } else {
-            MOST_OF_INIT
-        },
+        _ if !is_ready => MOST_OF_INIT,
+        Want::Update => MOST_OF_UPDATE,
+        Want::Read => MOST_OF_READ,
     }
 }

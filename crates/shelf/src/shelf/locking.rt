@@ -25,9 +25,10 @@ impl<P: Parts> Shelf<P> {
         None
     }
 
-    /// Takes the lock, with room for the most entries that this holding can add.
+    /// Takes the lock, with room for the most entries that this holding can add. A read of a node that is initialised is
+    /// held up by no bound, and goes on without the lock where another call owns it.
     pub fn take(&mut self, alloc: Global, call: CallId, want: Want) -> Taken
-        ensures row { TakeRow call result (ledger_seen self.old.ledger) (ledger_seen self.new.ledger) }
+        ensures row { TakeRow call want result (ledger_seen self.old.ledger) (ledger_seen self.new.ledger) }
         ensures codec { self.new.codec ≡ self.old.codec }
         ensures folder { self.new.folder ≡ self.old.folder }
         ensures store { (shelf_seen self.new).store ≡ (shelf_seen self.old).store }

@@ -1,4 +1,5 @@
 ghost use Rattle.std.specs.Prelude.{◌≡◌, ◌<◌, ◌≤◌, ◌^◌, ◌++◌, ◌∷◌, [], None, false, IsTrue, OnOk, IfErr, IfSome};
+ghost use Rattle.hist_journal.specs.Folds.{edition_of};
 ghost use Rattle.hist_journal.specs.View.{base_seen};
 ghost use Rattle.folder_disk.specs.Contents.{Starts};
 ghost use Rattle.folder_disk.specs.Tally.{StartsTally};
@@ -59,6 +60,13 @@ impl<P: Parts> Shelf<P> {
         ensures { result ≡ self.now.ledger.lock }
     {
         self.ledger.owner()
+    }
+
+    /// How many value changes the history has.
+    pub fn edition(&self) -> u64
+        ensures { result ≡ edition_of self.now.ledger.journal.list }
+    {
+        self.ledger.edition()
     }
 
     pub fn codec(&self) -> &P::C

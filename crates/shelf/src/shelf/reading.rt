@@ -1,10 +1,10 @@
-ghost use Rattle.std.specs.Prelude.{◌≡◌, ◌≤◌, IsTrue, IfOk, IfSome};
+ghost use Rattle.std.specs.Prelude.{◌≡◌, IsTrue, IfOk, IfSome};
 ghost use Rattle.hist_journal.specs.Folds.{edition_of, value_of};
 ghost use Rattle.shelf.specs.Base.{ReadsAs};
 ghost use Rattle.shelf.specs.Loading.{base_of, Asks, IsOfEdition, DecodesAs, ReadDecodes, LoadRow};
 ghost use Rattle.shelf.specs.Plans.{PlanRow, HasPlanRoom};
 ghost use Rattle.shelf.specs.ShelfSeen.{shelf_seen};
-ghost use Rattle.shelf.specs.ShelfTurns.{Owns, MayFault};
+ghost use Rattle.shelf.specs.ShelfTurns.{MayFault};
 ghost use Rattle.shelf.specs.Rules.{rules_of};
 
 use super::Shelf;
@@ -19,7 +19,6 @@ impl<P: Parts> Shelf<P> {
     /// Reads main and decodes it. A call that does not own the lock needs room for the Fault that it may add: that is
     /// made before the read, also where the history is full.
     pub fn read_main(&mut self, alloc: Global, call: CallId) -> Loaded<ValueOf<P>>
-        requires room { Owns call (shelf_seen self.old) → 1 ≤ (shelf_seen self.old).room }
         requires lawful { IsTrue P.F.told → MayFault P.T.after call (shelf_seen self.old) }
         ensures turn { LoadRow call (P.F.tally self.new.folder).count result (shelf_seen self.old) (shelf_seen self.new) }
         ensures reads { IsTrue P.F.told → IfSome (base_of result) (λ base. ReadsAs (P.C.reads self.old.codec) (P.C.default_of self.old.codec) self.old.limit (P.F.contents self.old.folder).main base) }

@@ -12,6 +12,7 @@ unfolding is_dead is_ready last_mark has_open_raise value_of value_after edited 
 returns c =
     record {
       two_nodes = shown example.empty lawful.two_nodes refl;
+      read_between = shown example.empty lawful.read_between refl;
       equal_value = shown example.holds_one lawful.equal_value refl;
       death_after_raise = shown example.empty lawful.death_after_raise refl;
       death_after_rename = shown example.empty lawful.death_after_rename refl;
