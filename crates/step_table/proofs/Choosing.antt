@@ -15,12 +15,12 @@ use Rattle.shelf.specs.Rules.{Rules, weight_at}
 use Rattle.shelf.proofs.ReadingLemmas.{one_base}
 use Rattle.shelf.proofs.Bools.{never}
 use Rattle.shelf.proofs.SameCalls.{itself, same_call}
-use Rattle.step_table.specs.Calls.{Ask, Update, Read, At, First, Reading, Migrating, Finishing, Raising, Writing, SyncingFolder, Gone, Purpose, Initialise, Serve}
+use Rattle.step_table.specs.Calls.{Ask, Update, Read, At, First, Reading, Migrating, Finishing, Raising, Writing, SyncingFolder, Gone, Purpose, Initialise, Serve, ServeUnlocked, initialises}
 use Rattle.step_table.specs.Effects.{Effect, asking}
 use Rattle.step_table.specs.Requests.{ReadMain}
-use Rattle.step_table.specs.Rows.{Row, IsFree, IsOpen, waits, full, takes_first, takes, read_fails, too_long, unreadable, loads, migrates, finishes, refuses, keeps, past_limit, changes, raises, creates, appends, syncs_scratch, renames, write_fails, acknowledges, sync_fails}
+use Rattle.step_table.specs.Rows.{Row, IsFree, IsOpen, MayTake, waits, full, takes_first, takes, goes_without, gives, read_fails, too_long, unreadable, loads, migrates, finishes, refuses, keeps, past_limit, changes, raises, creates, appends, syncs_scratch, renames, write_fails, acknowledges, sync_fails}
 use Rattle.step_table.specs.World.{World}
-use Rattle.step_table.proofs.Chosen.{Luck, Meets, IsSame, IsSameFor, chosen, is_faulted, is_open, is_other, length_of, use_base}
+use Rattle.step_table.proofs.Chosen.{Luck, Meets, IsSame, IsSameFor, chosen, enter, give, has_to_lock, is_faulted, is_open, is_other, length_of, take, use_base}
 use Rattle.step_table.proofs.Waiting.{is_short}
 
 -- what the premises of the lines make of the tests of the function
@@ -63,6 +63,7 @@ module _ {V T : Type 0} (r : Rules V T) where
   same_for (Held value) Serve (Update edit) a b x y = same_once (r.meanings.after edit value) value a b x y
   same_for (Held value) Serve Read a b x y = x ∙ sym y
   same_for (Held value) Initialise ask a b x y = x ∙ sym y
+  same_for (Held value) ServeUnlocked ask a b x y = x ∙ sym y
   same_for Corrupt purpose ask a b x y = x ∙ sym y
   same_for (TooLong len) purpose ask a b x y = x ∙ sym y
 
@@ -126,13 +127,29 @@ module _ {V T M : Type 0} (r : Rules V T) (s : Store V M) (w : World V T) (call 
   free_is : IsFree r s w call → is_other w.owner call ≡ false
   free_is free = none_other w.owner call free
 
+  takes_by : (ask : Ask T) (must : Bool) → has_to_lock r s.limits w call (at_hand false) ask ≡ must → (must ≡ true → IsOpen r s w call)
+      → take r s.limits w call (at_hand false) ask ≡ enter r s.limits w call (at_hand false) ask
+  takes_by ask true is bounds = rw (is, opens (bounds refl)) refl
+  takes_by ask false is bounds = rw is refl
+
+  takes_so : (ask : Ask T) → MayTake r s w call ask → chosen r s.limits w call (at_hand false) (First ask) ≡ enter r s.limits w call (at_hand false) ask
+  takes_so ask may = rw (free_is may.free) (takes_by ask _ refl may.bounds)
+
+  -- the value is given for whatever main is read for but to initialise
+  gives_so : (purpose : Purpose) (value : V) → initialises purpose ≡ false → Reads r s.limits w call (Held value)
+      → IsChosen r s.limits w call (Reading purpose Read) (asking ReadMain (give r s.limits w call (at_hand false) value))
+  gives_so Initialise value is reads = never (sym is)
+  gives_so Serve value is reads = chose (reading (Held value) false) (λ well. (reads, refl)) refl refl
+  gives_so ServeUnlocked value is reads = chose (reading (Held value) false) (λ well. (reads, refl)) refl refl
+
   -- one clause a line; those of which memory lacks fall away
   row_chosen : {at : At V T} {e : Effect V T} → Row r s w call at e → is_short e.next ≡ false → IsChosen r s.limits w call at e
-  row_chosen (waits another) short = chose (at_hand false) tt (rw (other_is w.owner call another) refl) refl
-  row_chosen (full free bound) short =
-      chose (at_hand false) tt (rw (bound.entries_then, bound.weight_then, free_is free, closes (rw (bound.entries_then, bound.weight_then) at bound.bound)) refl) refl
-  row_chosen (takes_first may unready) short = chose (at_hand false) tt (rw (free_is may.free, opens may.bounds, unready) refl) refl
-  row_chosen (takes may ready) short = chose (at_hand false) tt (rw (free_is may.free, opens may.bounds, ready) refl) refl
+  row_chosen (waits another must) short = chose (at_hand false) tt (rw (other_is w.owner call another, must) refl) refl
+  row_chosen (full free must bound) short =
+      chose (at_hand false) tt (rw (bound.entries_then, bound.weight_then, free_is free, must, closes (rw (bound.entries_then, bound.weight_then) at bound.bound)) refl) refl
+  row_chosen (takes_first {ask = ask} may unready) short = chose (at_hand false) tt (rw (takes_so ask may, unready) refl) refl
+  row_chosen (takes {ask = ask} may ready) short = chose (at_hand false) tt (rw (takes_so ask may, ready) refl) refl
+  row_chosen (goes_without another need_not) short = chose (at_hand false) tt (rw (other_is w.owner call another, need_not) refl) refl
   row_chosen read_fails short = chose (at_hand true) (λ well. never (sym well)) refl refl
   row_chosen (too_long {len = len} reads) short = chose (reading (TooLong len) false) (λ well. (reads, refl)) refl refl
   row_chosen (unreadable reads none) short = chose (reading Corrupt false) (λ well. (reads, refl)) refl refl
@@ -147,6 +164,7 @@ module _ {V T M : Type 0} (r : Rules V T) (s : Store V M) (w : World V T) (call 
   row_chosen (changes {new = new} to fits) short =
       let low : length_of r s.limits w call (at_hand false) new ≤ s.limits.file = omega (arith, fits) in
       chose (reading (Held to.old) false) (λ well. (to.read, rw to.makes to.differs)) (rw (to.makes, is_no_less low) refl) refl
+  row_chosen (gives {purpose = purpose} {value = value} is reads) short = gives_so purpose value is reads
   row_chosen raises short = chose (at_hand false) tt refl refl
   row_chosen creates short = chose (at_hand false) tt refl refl
   row_chosen appends short = chose (at_hand false) tt refl refl

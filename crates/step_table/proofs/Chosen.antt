@@ -14,7 +14,8 @@ use Rattle.scratch_rename.specs.Filling.{next_piece}
 use Rattle.shelf.specs.declared.store.Limits.{Limits}
 use Rattle.shelf.specs.Endings.{synced_kinds}
 use Rattle.shelf.specs.Rules.{Rules, weight_at}
-use Rattle.step_table.specs.Calls.{Ask, Update, Read, At, First, Reading, Migrating, Finishing, Raising, Writing, SyncingFolder, Gone, Changed, Kept, Plan, Purpose, Initialise, Serve, Stage, Creating, Appending, SyncingScratch, Renaming, Updated}
+use Rattle.shelf.specs.Takes.{needs_lock}
+use Rattle.step_table.specs.Calls.{Ask, Update, Read, At, First, Reading, Migrating, Finishing, Raising, Writing, SyncingFolder, Gone, Gave, Changed, Kept, Plan, Purpose, Initialise, Serve, ServeUnlocked, Stage, Creating, Appending, SyncingScratch, Renaming, Updated, want_of}
 use Rattle.step_table.specs.Effects.{Effect, FolderUse, Faulted, Ends, Goes, Takes, Frees, Waits, does, goes, errs, asking, adding, fails}
 use Rattle.step_table.specs.Requests.{ReadMain, Create, Append, SyncScratch, Rename, SyncFolder}
 use Rattle.step_table.specs.Rows.{filling, kept_edit, piece_written, request_of, told_place}
@@ -44,6 +45,7 @@ module _ {V : Type 0} where
   IsSameFor r (Held value) Serve (Update edit) same = IsSame (r.meanings.after edit value) value same
   IsSameFor r (Held value) Serve Read same = same ≡ false
   IsSameFor r (Held value) Initialise ask same = same ≡ false
+  IsSameFor r (Held value) ServeUnlocked ask same = same ≡ false
   IsSameFor r Corrupt purpose ask same = same ≡ false
   IsSameFor r (TooLong len) purpose ask same = same ≡ false
 
@@ -56,17 +58,26 @@ module _ {V T : Type 0} (r : Rules V T) (limits : Limits) (w : World V T) (call 
   abbrev pub is_open : Bool
   is_open = nat_lt (length w.history) limits.history.entries && nat_lt (weight_at r w.history) limits.history.weight
 
+  abbrev pub has_to_lock : Ask T → Bool
+  has_to_lock ask = needs_lock (want_of ask) (is_ready call.node w.history)
+
+  abbrev pub enter : Ask T → Effect V T
+  enter ask = if is_ready call.node w.history then does (Goes Takes (Reading Serve ask)) else does (Goes Takes (Reading Initialise ask))
+
+  -- where the lock is free
   abbrev pub take : Ask T → Effect V T
-  take ask =
-      if is_open then (if is_ready call.node w.history then does (Goes Takes (Reading Serve ask)) else does (Goes Takes (Reading Initialise ask)))
-      else errs (error.HistoryFull (length w.history) (weight_at r w.history))
+  take ask = if has_to_lock ask then (if is_open then enter ask else errs (error.HistoryFull (length w.history) (weight_at r w.history))) else enter ask
+
+  -- where another call owns it
+  abbrev pub meet : Ask T → Effect V T
+  meet ask = if has_to_lock ask then does Waits else goes (Reading ServeUnlocked ask)
 
   abbrev pub length_of : V → ℕ
   length_of value = min (length (r.encoded value)) (2 ^ 64 - 1)
 
   -- nothing of the plan is written yet
   abbrev pub unwritten : T → V → Plan V T
-  unwritten edit new = record { change = Edit edit; text = record { written = []; rest = r.encoded new } }
+  unwritten edit new = record { change = Edit edit; value = new; text = record { written = []; rest = r.encoded new } }
 
   abbrev pub apply : T → V → Applied V → Effect V T
   apply edit value (applied.Refused code) = errs (error.Refused code (edition_of w.history))
@@ -75,11 +86,16 @@ module _ {V T : Type 0} (r : Rules V T) (limits : Limits) (w : World V T) (call 
       else if nat_lt limits.file (length_of new) then errs (error.ValueTooLong (length_of new))
       else goes (Raising (unwritten edit new))
 
-  -- what becomes of main; a read has no line yet
+  abbrev pub give : V → Effect V T
+  give value = does (Ends (Gave (edition_of w.history) value))
+
+  -- what becomes of main; no update is served without the lock
   abbrev pub use_base : BaseSeen V → Purpose → Ask T → Effect V T
   use_base (Held value) Initialise ask = goes (Migrating ask value)
   use_base (Held value) Serve (Update edit) = apply edit value (r.meanings.after edit value)
-  use_base (Held value) Serve Read = does Waits
+  use_base (Held value) Serve Read = give value
+  use_base (Held value) ServeUnlocked Read = give value
+  use_base (Held value) ServeUnlocked (Update edit) = does Waits
   use_base Corrupt purpose ask = errs error.Corrupt
   use_base (TooLong len) purpose ask = errs (error.FileTooLong len)
 
@@ -90,7 +106,7 @@ module _ {V T : Type 0} (r : Rules V T) (limits : Limits) (w : World V T) (call 
   write Renaming plan = asking Rename (adding (plan.change ∷ []) (goes (SyncingFolder (Changed (next_place w)))))
 
   abbrev pub chosen : At V T → Effect V T
-  chosen (First ask) = if is_other w.owner call then does Waits else take ask
+  chosen (First ask) = if is_other w.owner call then meet ask else take ask
   chosen (Reading purpose ask) = device (asking ReadMain (use_base luck.base purpose ask)) (fails ReadMain (error.StorageFault (next_place w)))
   chosen (Migrating ask value) = goes (Finishing ask)
   chosen (Finishing ask) = adding (Inited call.node ∷ []) (does (Goes Frees (First ask)))

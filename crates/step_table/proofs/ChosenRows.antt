@@ -1,4 +1,4 @@
--- What the function chooses is a line of the table, but for a read, which has not all of its lines yet.
+-- What the function chooses is a line of the table.
 use Rattle.std.proofs.Common.{◌≡◌, ◌≢◌, ◌<◌, ◌≤◌, ◌⊎◌, inl, inr, ◌-◌, ◌^◌, ◌&&◌, ℕ, min, nat_lt, Bool, true, false, length, Option, Some, None, [], refl, sym, ap, ◌∙◌, arith, if◌then◌else◌}
 use Rattle.std.proofs.lemmas.Bool.{and_parts}
 use Rattle.std.proofs.lemmas.Bool.Decides.{nat_tests}
@@ -13,12 +13,12 @@ use Rattle.shelf.specs.declared.store.Store.{Store}
 use Rattle.shelf.specs.Rules.{Rules, weight_at}
 use Rattle.shelf.proofs.Bools.{never}
 use Rattle.shelf.proofs.SameCalls.{itself}
-use Rattle.step_table.specs.Calls.{Ask, Update, Read, At, First, Reading, Migrating, Finishing, Raising, Writing, SyncingFolder, Gone, Plan, Purpose, Initialise, Serve, Stage, Creating, Appending, SyncingScratch, Renaming}
+use Rattle.step_table.specs.Calls.{Ask, Update, Read, At, First, Reading, Migrating, Finishing, Raising, Writing, SyncingFolder, Gone, Plan, Purpose, Initialise, Serve, ServeUnlocked, Stage, Creating, Appending, SyncingScratch, Renaming}
 use Rattle.step_table.specs.Effects.{Effect, asking}
 use Rattle.step_table.specs.Requests.{ReadMain}
-use Rattle.step_table.specs.Rows.{Row, IsFree, IsOpen, MayTake, Makes, waits, full, takes_first, takes, read_fails, too_long, unreadable, loads, migrates, finishes, refuses, keeps, past_limit, changes, raises, creates, appends, syncs_scratch, renames, write_fails, acknowledges, sync_fails}
+use Rattle.step_table.specs.Rows.{Row, IsFree, IsOpen, MayTake, Makes, waits, full, takes_first, takes, goes_without, gives, read_fails, too_long, unreadable, loads, migrates, finishes, refuses, keeps, past_limit, changes, raises, creates, appends, syncs_scratch, renames, write_fails, acknowledges, sync_fails}
 use Rattle.step_table.specs.World.{World}
-use Rattle.step_table.proofs.Chosen.{Luck, Meets, IsSame, IsSameFor, apply, chosen, is_open, is_other, length_of, take, use_base, write}
+use Rattle.step_table.proofs.Chosen.{Luck, Meets, IsSame, IsSameFor, apply, chosen, enter, has_to_lock, is_open, is_other, length_of, meet, take, use_base, write}
 use Rattle.step_table.proofs.Choosing.{Reads, other_is}
 
 -- what tests say
@@ -42,10 +42,9 @@ free_by : (owner : Option CallId) (call : CallId) → is_other owner call ≡ fa
 free_by owner call is another = never (sym is ∙ other_is owner call another)
 
 module _ {V T : Type 0} where
-  -- the step has a line whatever is met
+  -- the step has a line whatever is met; no update comes to be served without the lock
   abbrev pub is_served : At V T → Bool
-  is_served (First Read) = false
-  is_served (Reading purpose Read) = false
+  is_served (Reading ServeUnlocked (Update edit)) = false
   is_served Gone = false
   is_served other = true
 
@@ -67,12 +66,19 @@ module _ {V T M : Type 0} (r : Rules V T) (s : Store V M) (w : World V T) (call 
       let parts = and_parts (nat_lt (length w.history) s.limits.history.entries) (nat_lt (weight_at r w.history) s.limits.history.weight) is in
       record { entries = less_than parts.0; weight = less_than parts.1 }
 
+  enters : (ask : Ask T) → MayTake r s w call ask → Is (First ask) (enter r s.limits w call luck ask)
+  enters ask may = split (Is (First ask)) (is_ready call.node w.history) _ _ (λ ready. takes may ready) (λ unready. takes_first may unready)
+
   taken : (ask : Ask T) → IsFree r s w call → Is (First ask) (take r s.limits w call luck ask)
   taken ask free =
-      split (Is (First ask)) (is_open r s.limits w call luck) _ _
-      (λ is. (let may : MayTake r s w call = record { free = free; bounds = opens is } in
-      split (Is (First ask)) (is_ready call.node w.history) _ _ (λ ready. takes may ready) (λ unready. takes_first may unready)))
-      (λ closed. full free (record { entries_then = refl; weight_then = refl; bound = full_by (length w.history) s.limits.history.entries (weight_at r w.history) s.limits.history.weight _ refl closed }))
+      split (Is (First ask)) (has_to_lock r s.limits w call luck ask) _ _
+      (λ must. split (Is (First ask)) (is_open r s.limits w call luck) _ _
+      (λ is. enters ask (record { free = free; bounds = λ locks. opens is }))
+      (λ closed. full free must (record { entries_then = refl; weight_then = refl; bound = full_by (length w.history) s.limits.history.entries (weight_at r w.history) s.limits.history.weight _ refl closed })))
+      (λ need_not. enters ask (record { free = free; bounds = λ locks. never (sym need_not ∙ locks) }))
+
+  met : (ask : Ask T) → IsAnother w.owner call → Is (First ask) (meet r s.limits w call luck ask)
+  met ask another = split (Is (First ask)) (has_to_lock r s.limits w call luck ask) _ _ (λ must. waits another must) (λ need_not. goes_without another need_not)
 
   writes : (stage : Stage) (plan : Plan V T) → Is (Writing stage plan) (write r s.limits w call luck stage plan)
   writes Creating plan = creates
@@ -102,14 +108,16 @@ module _ {V T M : Type 0} (r : Rules V T) (s : Store V M) (w : World V T) (call 
           → IsRead purpose ask (use_base r s.limits w call luck base purpose ask)
       base_reads (Held value) Initialise ask is served reads same = loads reads
       base_reads (Held value) Serve (Update edit) is served reads same = applies edit value (r.meanings.after edit value) reads refl same
-      base_reads (Held value) Serve Read is served reads same = never served
+      base_reads (Held value) Serve Read is served reads same = gives refl reads
+      base_reads (Held value) ServeUnlocked Read is served reads same = gives refl reads
+      base_reads (Held value) ServeUnlocked (Update edit) is served reads same = never served
       base_reads Corrupt purpose ask is served reads same = unreadable reads (handled is)
       base_reads (TooLong len) purpose ask is served reads same = too_long reads
 
       pub chosen_row : (at : At V T) → is_served at ≡ true → Meets r s.limits w call luck (Reads r s.limits w call) at
           → Row r s w call at (chosen r s.limits w call luck at)
-      chosen_row (First (Update edit)) served meets =
-          split (Is (First (Update edit))) (is_other w.owner call) _ _ (λ is. waits (another_by w.owner call is)) (λ is. taken (Update edit) (free_by w.owner call is))
+      chosen_row (First ask) served meets =
+          split (Is (First ask)) (is_other w.owner call) _ _ (λ is. met ask (another_by w.owner call is)) (λ is. taken ask (free_by w.owner call is))
       chosen_row (Reading purpose ask) served meets =
           split (Is (Reading purpose ask)) luck.fails _ _ (λ is. read_fails) (λ well. let met = meets well in base_reads luck.base purpose ask refl served met.0 met.1)
       chosen_row (Migrating ask value) served meets = migrates none

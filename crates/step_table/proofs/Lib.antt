@@ -9,5 +9,6 @@ pub mod LockLemmas
 pub mod OneTurn
 pub mod Played
 pub mod PlayedTurns
+pub mod Publishing
 pub mod Tallied
 pub mod Waiting

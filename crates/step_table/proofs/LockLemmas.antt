@@ -9,10 +9,10 @@ use Rattle.shelf.specs.Ledger.{freed}
 use Rattle.shelf.proofs.Bools.{never}
 use Rattle.shelf.proofs.SameCalls.{itself}
 
-none_not_some : (call : CallId) → ◌≡◌ {A = Option CallId} None (Some call) → ⊥
-none_not_some call same = cc
+pub none_not_some : {A : Type 0} (a : A) → ◌≡◌ {A = Option A} None (Some a) → ⊥
+none_not_some a same = cc
 
-pub same_some : (a b : CallId) → Some a ≡ Some b → a ≡ b
+pub same_some : {A : Type 0} (a b : A) → Some a ≡ Some b → a ≡ b
 same_some a b same = cc
 
 -- whoever owns it then owned it before

@@ -16,11 +16,9 @@ use Rattle.step_table.specs.declared.progress.Progress.{Progress}
 use Rattle.step_table.specs.declared.progress.Progress.TheVariants.{Ended}
 use Rattle.step_table.proofs.Choosing.{one_effect}
 use Rattle.step_table.proofs.Chosen.{is_faulted}
+use Rattle.step_table.proofs.LockLemmas.{same_some}
 use Rattle.step_table.proofs.Tallied.{one_tally}
 use Rattle.step_table.proofs.Waiting.{is_short}
-
-same_place : (a b : ℕ) → Some a ≡ Some b → a ≡ b
-same_place a b same = cc
 
 -- a folder of which only the scratch file has changed
 scratch_is : (scratch : Scratch) (old new : Contents) → ChangesScratch scratch old new → new ≡ record old { scratch = scratch }
@@ -105,7 +103,7 @@ module _ {V T M : Type 0} (r : Rules V T) (s : Store V M) (read_once : (bytes : 
         → is_short e.next ≡ false → is_short f.next ≡ false → Uses (begun x c1) e e.folder → Uses (begun y c2) f f.folder → e ≡ f
     one_allowed true died dies e f a b long also used too = absurd a
     one_allowed false true dies e f a b long also used too =
-        a.is ∙ ap (λ (place : ℕ). errs (Died place)) (same_place a.place b.place (sym a.last ∙ b.last)) ∙ sym b.is
+        a.is ∙ ap (λ (place : ℕ). errs (Died place)) (same_some a.place b.place (sym a.last ∙ b.last)) ∙ sym b.is
     one_allowed false false true e f a b long also used too = a ∙ sym b
     one_allowed false false false e f a b long also used too =
         one_effect r s read_once w told c.id e f a b long also

@@ -12,7 +12,7 @@ use Rattle.shelf.specs.Base.{ReadsAs}
 use Rattle.shelf.specs.Deaths.{last_death}
 use Rattle.shelf.specs.ExampleStore.{after, reads}
 use Rattle.shelf.proofs.Bools.{never}
-use Rattle.step_table.specs.Calls.{At, Ask, Call, Initialise, Purpose, Read, Reading, Serve, Update, is_gone}
+use Rattle.step_table.specs.Calls.{At, Ask, Call, Initialise, Purpose, Read, Reading, Serve, ServeUnlocked, Update, is_gone}
 use Rattle.step_table.specs.Effects.{Effect, errs, gave_by}
 use Rattle.step_table.specs.ExampleTurns.{rules}
 use Rattle.step_table.specs.Turn.{AllowedBy, Turn, dies_now, dying, has_died_by}
@@ -61,6 +61,7 @@ same_for : (old : ℕ) (purpose : Purpose) (ask : Ask ExampleEdit) → IsSameFor
 same_for old Initialise ask = refl
 same_for old Serve (Update edit) = same_so old (after edit old)
 same_for old Serve Read = refl
+same_for old ServeUnlocked ask = refl
 
 -- the place of a node's last death
 abbrev place_in : Option ℕ → ℕ

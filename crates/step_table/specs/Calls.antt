@@ -6,6 +6,9 @@ use Rattle.store_traits.specs.declared.step.Step.TheVariants as step
 use Rattle.store_traits.specs.declared.update_error.UpdateError.{UpdateError}
 use Rattle.hist_journal.specs.declared.seen.KindSeen.{KindSeen}
 use Rattle.scratch_rename.specs.Filling.{Filling}
+use Rattle.shelf.specs.declared.answers.Want.{Want}
+use Rattle.shelf.specs.declared.answers.Want.TheVariants as want
+use Rattle.shelf.specs.Takes.{needs_lock}
 use Rattle.step_table.specs.declared.progress.Progress.{Progress}
 use Rattle.step_table.specs.declared.progress.Progress.TheVariants.{Moved, Blocked, Ended}
 
@@ -20,9 +23,10 @@ pub data Reply (V : Type 0) : Type 0 where
   Gave : (edition : ℕ) → (value : V) → Reply V
   Failed : (error : UpdateError) → Reply V
 
--- a value change that is being written, and how far its text is in the scratch file
+-- a value change that is being written, the value that it makes, and how far its text is in the scratch file
 pub record Plan (V T : Type 0) : Type 0 where
   pub change : KindSeen V T
+  pub value : V
   pub text : Filling
 
 -- what an update has to tell once the folder is synced: where its value change stands, or that its transform kept the value
@@ -30,10 +34,11 @@ pub data Ending (T : Type 0) : Type 0 where
   Changed : (place : ℕ) → Ending T
   Kept : (edit : T) → Ending T
 
--- what main is read for
+-- what main is read for; a read may be served without the lock
 pub data Purpose : Type 0 where
   Initialise : Purpose
   Serve : Purpose
+  ServeUnlocked : Purpose
 
 -- how far a change is written
 pub data Stage : Type 0 where
@@ -87,6 +92,16 @@ abbrev pub reading_step : {T : Type 0} → Purpose → Ask T → Step
 reading_step Initialise ask = step.I2
 reading_step Serve (Update edit) = step.U2
 reading_step Serve Read = step.V3
+reading_step ServeUnlocked ask = step.V3
+
+abbrev pub initialises : Purpose → Bool
+initialises Initialise = true
+initialises other = false
+
+-- what the lock is taken for
+abbrev pub want_of : {T : Type 0} → Ask T → Want
+want_of (Update edit) = want.Update
+want_of Read = want.Read
 
 abbrev pub writing_step : Stage → Step
 writing_step Creating = step.U4
@@ -104,6 +119,11 @@ module _ {V T : Type 0} where
   abbrev pub is_first : At V T → Bool
   is_first (First ask) = true
   is_first other = false
+
+  -- a turn in which the call has to own the lock, and waits where another does; `ready` as below
+  abbrev pub is_locking : (ready : Bool) → At V T → Bool
+  is_locking ready (First ask) = needs_lock (want_of ask) ready
+  is_locking ready other = false
 
   -- the step of a call, where `ready` says whether its node is initialised; a call that ended has none, and I1 stands for it
   abbrev pub step_at : (ready : Bool) → At V T → Step

@@ -2,7 +2,7 @@
 use Rattle.std.specs.Prelude.{ℕ, suc, zero, List, [], ◌∷◌, ◌++◌, Option, Some, None, true}
 use Rattle.store_traits.specs.declared.ids.CallId.{CallId}
 use Rattle.store_traits.specs.declared.step.Step.TheVariants.{U6}
-use Rattle.store_traits.specs.declared.update_error.UpdateError.TheVariants.{Died, NotDurable, StorageFault}
+use Rattle.store_traits.specs.declared.update_error.UpdateError.TheVariants.{Died, HistoryFull, NotDurable, StorageFault}
 use Rattle.folder_disk.specs.Contents.{Contents, Images}
 use Rattle.folder_disk.specs.Contents as folder
 use Rattle.folder_disk.specs.Planned.{no_calls}
@@ -16,7 +16,7 @@ use Rattle.shelf.specs.declared.store.Store.{Store}
 use Rattle.shelf.specs.ExampleStore.{meanings, encoded, reads, empty, holds_one, Entry, n1, n2}
 use Rattle.shelf.specs.LawfulExamples as lawful
 use Rattle.shelf.specs.Rules.{Rules}
-use Rattle.step_table.specs.Calls.{Call, First, Gone, Update, Reply, Updated, Failed}
+use Rattle.step_table.specs.Calls.{Call, First, Gone, Update, Read, Reply, Updated, Gave, Failed}
 use Rattle.step_table.specs.declared.progress.Progress.TheVariants.{Moved, Blocked, Ended}
 use Rattle.step_table.specs.Runs.{Did, Scene}
 use Rattle.step_table.specs.World.{World}
@@ -34,6 +34,9 @@ b number = record { node = n2; client = record { 0 = 2 }; number = number }
 
 abbrev pub update : CallId → ExampleEdit → Call ℕ ExampleEdit
 update id edit = record { id = id; at = First (Update edit); since = None }
+
+abbrev pub read : CallId → Call ℕ ExampleEdit
+read id = record { id = id; at = First Read; since = None }
 
 -- a call in the end, whose earliest turn found so many entries
 abbrev pub over : CallId → ℕ → Call ℕ ExampleEdit
@@ -96,6 +99,40 @@ equal_value_end =
     record {
       world = at_end holds_one (1 ∷ []) lawful.equal_value 0 (tally 0 [] (record { read_main = 2; create = 0; append = 0; sync_scratch = 0; rename = 0; sync_folder = 1 }));
       calls = over (a 1) 0 ∷ [];
+    }
+
+-- the second node is initialised by a read, which then reads past an update that owns the lock; a later read gives what that left
+abbrev pub reads_past : List (Did ℕ)
+reads_past =
+    goes 0 ∷ waits 1 ∷ times 3 (goes 0 ∷ []) ++ times 4 (goes 1 ∷ []) ++ times 6 (goes 0 ∷ []) ++ goes 1 ∷ answers 1 (Gave 0 0) ∷ goes 0 ∷ answers 0 (Updated 1)
+    ∷ goes 2 ∷ answers 2 (Gave 1 1) ∷ []
+
+abbrev pub reads_past_start : Scene ℕ ExampleEdit
+reads_past_start = record { world = at_start empty; calls = update (a 1) (Set 1) ∷ read (b 1) ∷ read (b 2) ∷ [] }
+
+abbrev pub reads_past_end : Scene ℕ ExampleEdit
+reads_past_end =
+    record {
+      world = at_end empty (1 ∷ []) lawful.read_between 1 (tally 0 [] (record { read_main = 5; create = 1; append = 1; sync_scratch = 1; rename = 1; sync_folder = 1 }));
+      calls = over (a 1) 0 ∷ over (b 1) 0 ∷ over (b 2) 5 ∷ [];
+    }
+
+-- a store that holds the number 1, and whose history has room for three entries
+abbrev pub narrow : Store ℕ (Unit {0})
+narrow = record holds_one { limits = record { file = 1048576; history = record { entries = 3; weight = 67108864 } } }
+
+-- where the history is full, a node that is initialised reads on, and another can not be
+abbrev pub full_history : List (Did ℕ)
+full_history = equal_value ++ goes 1 ∷ answers 1 (Gave 0 1) ∷ answers 2 (Failed (HistoryFull 3 16)) ∷ []
+
+abbrev pub full_history_start : Scene ℕ ExampleEdit
+full_history_start = record { world = at_start narrow; calls = update (a 1) (Set 1) ∷ read (a 2) ∷ read (b 1) ∷ [] }
+
+abbrev pub full_history_end : Scene ℕ ExampleEdit
+full_history_end =
+    record {
+      world = at_end narrow (1 ∷ []) lawful.equal_value 0 (tally 0 [] (record { read_main = 3; create = 0; append = 0; sync_scratch = 0; rename = 0; sync_folder = 1 }));
+      calls = over (a 1) 0 ∷ over (a 2) 3 ∷ over (b 1) 3 ∷ [];
     }
 
 -- a store in which the first call of client a kills its node before it syncs the scratch file

@@ -1,3 +1,4 @@
+pub mod Caching
 pub mod Calls
 pub mod Effects
 pub mod ExampleTurns

@@ -1,5 +1,5 @@
 -- The step table: each line is an effect that a step allows.
-use Rattle.std.specs.Prelude.{◌≡◌, ◌≢◌, ◌<◌, ◌≤◌, ℕ, true, false, [], ◌∷◌, length, Option, Some, None, IsTrue, if◌then◌else◌, ◌==◌}
+use Rattle.std.specs.Prelude.{◌≡◌, ◌≢◌, ◌<◌, ◌≤◌, ℕ, Bool, true, false, [], ◌∷◌, length, Option, Some, None, IsTrue, if◌then◌else◌, ◌==◌}
 use Rattle.store_traits.specs.declared.applied.Applied.TheVariants as applied
 use Rattle.store_traits.specs.declared.ids.CallId.{CallId}
 use Rattle.store_traits.specs.declared.update_error.UpdateError.TheVariants as error
@@ -15,7 +15,8 @@ use Rattle.shelf.specs.Base.{ReadsAs}
 use Rattle.shelf.specs.Endings.{synced_kinds}
 use Rattle.shelf.specs.PastBounds.{IsFull, IsPastLimit}
 use Rattle.shelf.specs.Rules.{Rules, weight_at}
-use Rattle.step_table.specs.Calls.{Ask, Update, At, First, Reading, Migrating, Finishing, Raising, Writing, SyncingFolder, Ending, Changed, Kept, Plan, Purpose, Initialise, Serve, Stage, Creating, Appending, SyncingScratch, Renaming, Updated}
+use Rattle.shelf.specs.Takes.{needs_lock}
+use Rattle.step_table.specs.Calls.{Ask, Update, Read, At, First, Reading, Migrating, Finishing, Raising, Writing, SyncingFolder, Ending, Changed, Kept, Plan, Purpose, Initialise, Serve, ServeUnlocked, Stage, Creating, Appending, SyncingScratch, Renaming, Updated, Gave, initialises, want_of}
 use Rattle.step_table.specs.Effects.{Effect, Ends, Goes, Takes, Frees, Waits, does, goes, errs, asking, adding, fails}
 use Rattle.step_table.specs.Requests.{Request, ReadMain, Create, Append, SyncScratch, Rename, SyncFolder}
 use Rattle.step_table.specs.World.{World, next_place}
@@ -54,10 +55,14 @@ module _ {V T M : Type 0} (r : Rules V T) (s : Store V M) (w : World V T) (call 
     pub entries : length w.history < s.limits.history.entries
     pub weight : weight_at r w.history < s.limits.history.weight
 
-  -- the lock is free, and the history open
-  pub record MayTake : Type 0 where
+  -- the call has to own the lock
+  abbrev pub must_lock : Ask T → Bool
+  must_lock ask = needs_lock (want_of ask) (is_ready call.node w.history)
+
+  -- the lock is free; and the history open, which a read of a node that is initialised does not ask
+  pub record MayTake (ask : Ask T) : Type 0 where
     pub free : IsFree
-    pub bounds : IsOpen
+    pub bounds : must_lock ask ≡ true → IsOpen
 
   -- main reads so, where the folder tells what it holds
   abbrev pub MainReads : BaseSeen V → Type 0
@@ -65,7 +70,7 @@ module _ {V T M : Type 0} (r : Rules V T) (s : Store V M) (w : World V T) (call 
 
   -- a plan of which nothing is written yet
   abbrev pub new_plan : T → V → Plan V T
-  new_plan edit value = record { change = Edit edit; text = record { written = []; rest = r.encoded value } }
+  new_plan edit value = record { change = Edit edit; value = value; text = record { written = []; rest = r.encoded value } }
 
   -- the transform makes another value of the one that main reads as
   pub record Makes (edit : T) (new : V) : Type 0 where
@@ -76,11 +81,13 @@ module _ {V T M : Type 0} (r : Rules V T) (s : Store V M) (w : World V T) (call 
 
   pub data Row : At V T → Effect V T → Type 0 where
     -- I1, U1, V2: the lock is taken
-    waits : {edit : T} → IsAnother w.owner call → Row (First (Update edit)) (does Waits)
-    full : {ask : Ask T} {entries weight : ℕ} → IsFree → IsFull r s entries weight w.history → Row (First ask) (errs (error.HistoryFull entries weight))
-    lacks_room : {ask : Ask T} → MayTake → Row (First ask) (errs error.NoMemory)
-    takes_first : {ask : Ask T} → MayTake → is_ready call.node w.history ≡ false → Row (First ask) (does (Goes Takes (Reading Initialise ask)))
-    takes : {ask : Ask T} → MayTake → is_ready call.node w.history ≡ true → Row (First ask) (does (Goes Takes (Reading Serve ask)))
+    waits : {ask : Ask T} → IsAnother w.owner call → must_lock ask ≡ true → Row (First ask) (does Waits)
+    full : {ask : Ask T} {entries weight : ℕ} → IsFree → must_lock ask ≡ true → IsFull r s entries weight w.history → Row (First ask) (errs (error.HistoryFull entries weight))
+    lacks_room : {ask : Ask T} → (must_lock ask ≡ true → MayTake ask) → Row (First ask) (errs error.NoMemory)
+    takes_first : {ask : Ask T} → MayTake ask → is_ready call.node w.history ≡ false → Row (First ask) (does (Goes Takes (Reading Initialise ask)))
+    takes : {ask : Ask T} → MayTake ask → is_ready call.node w.history ≡ true → Row (First ask) (does (Goes Takes (Reading Serve ask)))
+    -- V2, where another call owns the lock
+    goes_without : {ask : Ask T} → IsAnother w.owner call → must_lock ask ≡ false → Row (First ask) (goes (Reading ServeUnlocked ask))
     -- I2, U2, V3: main is read
     read_fails : {purpose : Purpose} {ask : Ask T} → Row (Reading purpose ask) (fails ReadMain (error.StorageFault (next_place w)))
     read_lacks_memory : {purpose : Purpose} {ask : Ask T} → Row (Reading purpose ask) (errs error.NoMemory)
@@ -104,6 +111,9 @@ module _ {V T M : Type 0} (r : Rules V T) (s : Store V M) (w : World V T) (call 
         → Row (Reading Serve (Update edit)) (asking ReadMain (errs (error.ValueTooLong len)))
     changes : {edit : T} {new : V} → Makes edit new → length (r.encoded new) ≤ s.limits.file
         → Row (Reading Serve (Update edit)) (asking ReadMain (goes (Raising (new_plan edit new))))
+    -- V3: the value is given, with the lock or without
+    gives : {purpose : Purpose} {value : V} → initialises purpose ≡ false → MainReads (Held value)
+        → Row (Reading purpose Read) (asking ReadMain (does (Ends (Gave (edition_of w.history) value))))
     -- U3: the version word and the history are raised together
     raises : {plan : Plan V T} → Row (Raising plan) (adding (Raise ∷ []) (goes (Writing Creating plan)))
     -- U4 to U7: the change is written to the scratch file, synced and renamed over main

@@ -5,7 +5,7 @@ use Rattle.folder_disk.specs.Contents.{Images}
 use Rattle.folder_disk.specs.Contents as folder
 use Rattle.shelf.specs.declared.examples.ExampleEdit.{ExampleEdit}
 use Rattle.shelf.specs.declared.examples.ExampleEdit.TheVariants.{Set}
-use Rattle.step_table.specs.Calls.{At, Changed, Call, First, Reading, Initialise, Writing, Creating, SyncingScratch, SyncingFolder, Gone, Update}
+use Rattle.step_table.specs.Calls.{At, Changed, Call, First, Reading, Initialise, Serve, ServeUnlocked, Writing, Creating, SyncingScratch, SyncingFolder, Gone, Update, Read}
 use Rattle.shelf.specs.ExampleStore as example
 use Rattle.step_table.specs.ExampleTurns.{a, b, at_start, deadly}
 use Rattle.shelf.specs.LawfulExamples as lawful
@@ -19,7 +19,7 @@ abbrev pub gone : Call ℕ ExampleEdit
 gone = at_step Gone
 
 abbrev pub one : At ℕ ExampleEdit
-one = Writing Creating (record { change = Edit (Set 1); text = record { written = []; rest = 1 ∷ [] } })
+one = Writing Creating (record { change = Edit (Set 1); value = 1; text = record { written = []; rest = 1 ∷ [] } })
 
 -- the node died and lives again since the call began
 abbrev pub restarted : World ℕ ExampleEdit
@@ -36,7 +36,7 @@ former_life_goes_on =
       world = restarted;
       call = at_step one;
       world_after = record restarted { folder = record restarted.folder { scratch = folder.Unsynced [] } };
-      call_after = at_step (Writing SyncingScratch (record { change = Edit (Set 1); text = record { written = []; rest = 1 ∷ [] } }));
+      call_after = at_step (Writing SyncingScratch (record { change = Edit (Set 1); value = 1; text = record { written = []; rest = 1 ∷ [] } }));
     }
 
 -- another call owns the lock
@@ -46,6 +46,26 @@ owned = record (at_start example.empty) { owner = Some (b 1) }
 -- the call takes it all the same
 abbrev pub lock_taken_from_another : Turned ℕ ExampleEdit
 lock_taken_from_another = record { world = owned; call = at_step (First (Update (Set 1))); world_after = record owned { owner = Some (a 1) }; call_after = at_step (Reading Initialise (Update (Set 1))) }
+
+-- the node is initialised, and another call owns the lock
+abbrev pub owned_ready : World ℕ ExampleEdit
+owned_ready = record owned { history = example.a 1 (Inited example.n1) ∷ [] }
+
+-- a read goes on without the lock, and takes it all the same
+abbrev pub unlocked_read_takes_lock : Turned ℕ ExampleEdit
+unlocked_read_takes_lock = record { world = owned_ready; call = at_step (First Read); world_after = record owned_ready { owner = Some (a 1) }; call_after = at_step (Reading ServeUnlocked Read) }
+
+-- it waits for the lock
+abbrev pub ready_read_waits : Turned ℕ ExampleEdit
+ready_read_waits = record { world = owned_ready; call = at_step (First Read); world_after = owned_ready; call_after = at_step (First Read) }
+
+-- a read under the lock
+abbrev pub reading : World ℕ ExampleEdit
+reading = record owned_ready { owner = Some (a 1) }
+
+-- its value is given, and the lock stays with it
+abbrev pub read_keeps_lock : Turned ℕ ExampleEdit
+read_keeps_lock = record { world = reading; call = at_step (Reading Serve Read); world_after = reading; call_after = gone }
 
 -- main was renamed, and a machine stop may still leave none
 abbrev pub renamed : World ℕ ExampleEdit
@@ -80,7 +100,7 @@ abbrev pub lock_left_held : Turned ℕ ExampleEdit
 lock_left_held =
     record {
       world = doomed;
-      call = at_step (Writing SyncingScratch (record { change = Edit (Set 1); text = record { written = 1 ∷ []; rest = [] } }));
+      call = at_step (Writing SyncingScratch (record { change = Edit (Set 1); value = 1; text = record { written = 1 ∷ []; rest = [] } }));
       world_after = record doomed { deaths = []; history = example.a 1 (Inited example.n1) ∷ example.a 1 Raise ∷ example.a 1 (Death example.n1) ∷ [] };
       call_after = gone;
     }

@@ -6,24 +6,24 @@ ghost use Rattle.store_traits.specs.declared.update_error.UpdateError.TheVariant
 ghost use Rattle.file_lock.specs.Owner.{IsAnother};
 ghost use Rattle.hist_journal.specs.Folds.{raises_of};
 ghost use Rattle.shelf.specs.declared.store.Store.{Store};
-ghost use Rattle.step_table.specs.Calls.{Failed, Gone, Reply, is_first};
+ghost use Rattle.step_table.specs.Calls.{Failed, Gone, Reply, is_locking};
 ghost use Rattle.step_table.specs.declared.progress.Progress.{Progress};
 ghost use Rattle.step_table.specs.declared.progress.Progress.TheVariants.{Blocked, Ended};
 ghost use Rattle.step_table.specs.Laws.{AddsOwn, LeavesLock};
 ghost use Rattle.step_table.specs.Turn.{Turn, has_died_by, dies_now};
-ghost use Rattle.step_table.specs.World.{Turned, begin};
+ghost use Rattle.step_table.specs.World.{Turned, begin, is_ready_now};
 ghost use Rattle.shelf.specs.Rules.{rules_of};
 
 use store_traits::{Codec, Transform};
 
-/// A turn is blocked exactly where no death ends the call, it is the call's first turn, and another call owns the lock.
-/// Then the world is as it was.
+/// A turn is blocked exactly where no death ends the call, it is a first turn that needs the lock, and another call owns
+/// the lock. Then the world is as it was.
 pub fn turns_wait_exactly<C: Codec, T: Transform<Value = C::Value>, M>()
     ensures blocked { (c : C) (s : Store C.Value M) (t : Turned C.Value T) → Turn (rules_of T.after T.weight_of (C.encoded c) (C.reads c) (C.default_of c)) s t Blocked
-        → (has_died_by (begin t) ≡ false) × (dies_now (begin t) ≡ false) × (is_first t.call.at ≡ true) × IsAnother t.world.owner t.call.id × (t.world_after ≡ t.world) }
+        → (has_died_by (begin t) ≡ false) × (dies_now (begin t) ≡ false) × (is_locking (is_ready_now t) t.call.at ≡ true) × IsAnother t.world.owner t.call.id × (t.world_after ≡ t.world) }
     ensures exactly { (c : C) (s : Store C.Value M) (t : Turned C.Value T) (gave : Progress (Reply C.Value))
         → Turn (rules_of T.after T.weight_of (C.encoded c) (C.reads c) (C.default_of c)) s t gave
-        → has_died_by (begin t) ≡ false → dies_now (begin t) ≡ false → is_first t.call.at ≡ true → IsAnother t.world.owner t.call.id → gave ≡ Blocked }
+        → has_died_by (begin t) ≡ false → dies_now (begin t) ≡ false → is_locking (is_ready_now t) t.call.at ≡ true → IsAnother t.world.owner t.call.id → gave ≡ Blocked }
 {}
 
 /// A turn that ends with want of memory leaves folder and history as they were.

@@ -1,4 +1,4 @@
-use Rattle.std.proofs.Common.{◌≡◌, ℕ, length, Option, Some, None, refl, ap, arith}
+use Rattle.std.proofs.Common.{◌≡◌, ℕ, true, false, length, Option, Some, None, refl, ap, arith}
 use Rattle.store_traits.specs.declared.ids.CallId.{CallId}
 use Rattle.folder_disk.specs.Contents.{Contents, Kept, Images, Wild}
 use Rattle.hist_journal.specs.Nodes.{is_dead, is_ready, last_mark}
@@ -6,21 +6,27 @@ use Rattle.hist_journal.specs.Folds.{edition_of}
 use Rattle.shelf.specs.declared.examples.ExampleEdit.{ExampleEdit}
 use Rattle.shelf.specs.Deaths.{last_death, used_up}
 use Rattle.shelf.specs.ExampleStore as example
-use Rattle.step_table.specs.Calls.{Changed, Reply, SyncingFolder, Updated}
+use Rattle.step_table.specs.Calls.{Changed, Gave, Reply, SyncingFolder, Updated}
 use Rattle.step_table.specs.Effects.{Comes, Effect, errs}
-use Rattle.step_table.specs.ExampleTurns.{a, rules}
+use Rattle.step_table.specs.ExampleTurns.{a, b, rules}
 use Rattle.step_table.specs.Rows.{Row, acknowledges, sync_fails}
 use Rattle.step_table.specs.SingleTurns as single
 use Rattle.step_table.specs.World.{World, begin}
 use Rattle.step_table.specs.declared.progress.Progress.{Progress}
 use Rattle.step_table.specs.declared.progress.Progress.TheVariants.{Moved, Blocked, Ended}
 use Rattle.store_traits.specs.declared.update_error.UpdateError.TheVariants.{Died}
-use Rattle.step_table.proofs.Waiting.{turn_has_to_wait}
+use Rattle.step_table.proofs.Applying.{ended_owns_nothing}
+use Rattle.step_table.proofs.LockKept.{turn_leaves_lock}
+use Rattle.step_table.proofs.Waiting.{turn_has_to_wait, turn_waits}
 use Rattle.step_table.proofs.examples.wrong_turns_are_refused.Goals as goal
 
 image_count : Kept → ℕ
 image_count (Images images) = length images
 image_count Wild = 0
+
+client_of : Option CallId → ℕ
+client_of None = 0
+client_of (Some call) = call.client.0
 
 never_ends : (reply : Reply ℕ) → ◌≡◌ {A = Progress (Reply ℕ)} Moved (Ended reply) → ⊥
 never_ends reply same = cc
@@ -36,7 +42,7 @@ never_unsynced acknowledges it = let count : ◌≡◌ {A = ℕ} 2 1 = ap (λ (c
 never_unsynced sync_fails it = let given = it.given in cc
 
 pub returns : goal.returns
-unfolding is_dead is_ready last_mark last_death used_up edition_of
+unfolding is_dead is_ready last_mark last_death used_up edition_of client_of
 returns c =
     record {
       former_life_ends =
@@ -44,6 +50,11 @@ returns c =
       former_life_goes_on = λ it. never_ends _ (rw it.allowed.is at it.comes.given);
       lock_taken_from_another =
           λ it. never_waits (turn_has_to_wait rules example.empty single.lock_taken_from_another Moved it refl refl refl (λ same. (let client : 2 ≡ 1 = ap (λ (call : CallId). call.client.0) same in omega arith)));
+      unlocked_read_takes_lock =
+          λ it. (let owner : ◌≡◌ {A = Option CallId} (Some (a 1)) (Some (b 1)) = (turn_leaves_lock rules example.empty single.unlocked_read_takes_lock Moved it).keeps (b 1) refl refl in
+          let client : 1 ≡ 2 = ap (λ (o : Option CallId). client_of o) owner in omega arith);
+      read_keeps_lock = λ it. ended_owns_nothing rules example.empty single.read_keeps_lock (Gave 0 0) it refl;
+      ready_read_waits = λ it. (let locks : false ≡ true = (turn_waits rules example.empty single.ready_read_waits it).2 in cc);
       acknowledged_without_sync = λ it. never_unsynced it.allowed it.comes;
       lock_left_held =
           λ it. (let owner : ◌≡◌ {A = Option CallId} (Some (a 1)) None = ap (λ (w : World ℕ ExampleEdit). w.owner) (rw it.allowed at it.comes.world) in cc);
