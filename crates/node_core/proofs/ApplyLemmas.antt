@@ -1,5 +1,5 @@
 -- The turn in which an update applies its edit to the value that it read.
-use Rattle.std.proofs.Common.{◌≡◌, ◌∙◌, ℕ, List, [], length, IsTrue, refl, sym, ap, arith, Err, false}
+use Rattle.std.proofs.Common.{◌≡◌, ◌∙◌, [], length, IsTrue, refl, sym, ap, arith, Err, false}
 use Rattle.store_traits.specs.declared.applied.Applied.{Applied}
 use Rattle.store_traits.specs.declared.applied.Applied.TheVariants.{Changed}
 use Rattle.store_traits.specs.declared.codec.Codec as codec_trait
@@ -17,13 +17,14 @@ use Rattle.shelf.specs.Legal.{value_at}
 use Rattle.shelf.specs.ShelfSeen.{ShelfSeen}
 use Rattle.shelf.specs.ShelfTurns.{Adds, Frees}
 use Rattle.step_table.specs.declared.progress.Progress.TheVariants.{Ended, Moved}
-use Rattle.step_table.specs.Calls.{At, Gone, Kept, Raising, Reading, Serve, SyncingFolder, Update}
+use Rattle.step_table.specs.Calls.{At, Failed, Gone, Kept, Raising, Reading, Serve, SyncingFolder, Update}
 use Rattle.step_table.specs.Effects.{asking, errs}
 use Rattle.step_table.specs.Requests.{ReadMain, Serves}
 use Rattle.step_table.specs.Rows.{Makes, changes, keeps, lacks_memory, past_limit, refuses}
+use Rattle.node_core.specs.declared.applying.Made.{Made}
 use Rattle.node_core.specs.declared.origin.Origin.{Origin}
 use Rattle.node_core.specs.Applying.{AppliedRow, MakesOther, MakesPlan, MakesTooLong}
-use Rattle.node_core.specs.ReadHeld.{HasRead}
+use Rattle.node_core.specs.ReadMain.{HasRead}
 use Rattle.node_core.specs.Ready.{Equipped, rules_seen}
 use Rattle.node_core.specs.Steps.{Steps}
 use Rattle.node_core.specs.Views.{unwritten, world_seen}
@@ -60,19 +61,20 @@ module _ {C F V T : Type 0} (c : codec_trait.Ghosts C V) (t : transform_trait.Gh
 
   module _ (ready : Equipped c t f here old) where
     -- the plan has memory, and what it is the text of may be main
-    pub writes : (plan : List ℕ) → MakesPlan (rules_seen c t f mid) (c.is_value mid.codec) mid.store given.value.value edit plan → HasRoomFor (length plan) (f.room new.folder)
-        → Steps c t f origin here old Moved (Raising (unwritten (Edit edit) plan)) new
-    writes plan makes room =
-        let made : MakesPlan (rules_seen c t f old) (c.is_value old.codec) old.store given.value.value edit plan = rw (read.same.codec, read.same.store) at makes in
-        let text : plan ≡ c.encoded old.codec made.new = made.writes.text in
-        rw text (goes_on c t f origin here old new (changes (makes_other made.new made.other) made.writes.may.fits) still serves (record {
+    pub writes : (made : Made V) → MakesPlan (rules_seen c t f mid) (c.is_value mid.codec) mid.store given.value.value edit made → HasRoomFor (length made.plan) (f.room new.folder)
+        → Steps c t f origin here old Moved (Raising (unwritten (record { kind = Edit edit; value = made.value.value }) made.plan)) new
+    writes made makes room =
+        let new_value = made.value.value in
+        let made_here : MakesPlan (rules_seen c t f old) (c.is_value old.codec) old.store given.value.value edit made = rw (read.same.codec, read.same.store) at makes in
+        let text : made.plan ≡ c.encoded old.codec new_value = made_here.writes.text in
+        rw text (goes_on c t f origin here old new (changes (makes_other new_value made_here.other) made_here.writes.may.fits) still serves (record {
           entries = room_left 0 ready.entries still.room (omega arith);
           room = rw text at room;
           may =
               λ told v is.
               let is_here : value_after t.after (value_at (rules_seen c t f old).meanings old.store old.list) (Edit edit) ≡ Held v = rw (still.store, still.list) at is in
-              let same_value : v ≡ made.new = the_value t.after edit _ given.value.value made.new v (read.held told) made.other.makes is_here in
-              rw (same_value, still.codec, still.store) made.writes.may;
+              let same_value : v ≡ new_value = the_value t.after edit _ given.value.value new_value v (read.held told) made_here.other.makes is_here in
+              rw (same_value, still.codec, still.store) made_here.writes.may;
         }))
 
     pub keeps_value : t.after edit given.value.value ≡ Changed given.value.value → Steps c t f origin here old Moved (SyncingFolder (Kept edit)) new
@@ -80,13 +82,13 @@ module _ {C F V T : Type 0} (c : codec_trait.Ghosts C V) (t : transform_trait.Gh
 
   -- the call ends without a plan
   pub makes_none : (err : UpdateError) (after : ShelfSeen C F V T) → AppliedRow (rules_seen c t f mid) (c.is_value mid.codec) mid.store given.value.value edit given.edition (Err err)
-      → Frees origin.call [] new after → after.folder ≡ new.folder → Steps c t f origin here old (Ended (Err err)) Gone after
+      → Frees origin.call [] new after → after.folder ≡ new.folder → Steps c t f origin here old (Ended (Failed err)) Gone after
   makes_none err after row frees folder = by_error err row
     where
-      behind : (err : UpdateError) → Line c t f origin here old (asking ReadMain (errs err)) → Steps c t f origin here old (Ended (Err err)) Gone after
+      behind : (err : UpdateError) → Line c t f origin here old (asking ReadMain (errs err)) → Steps c t f origin here old (Ended (Failed err)) Gone after
       behind err line = ends_behind c t f origin here old after new line still serves frees folder
 
-      by_error : (err : UpdateError) → AppliedRow (rules_seen c t f mid) (c.is_value mid.codec) mid.store given.value.value edit given.edition (Err err) → Steps c t f origin here old (Ended (Err err)) Gone after
+      by_error : (err : UpdateError) → AppliedRow (rules_seen c t f mid) (c.is_value mid.codec) mid.store given.value.value edit given.edition (Err err) → Steps c t f origin here old (Ended (Failed err)) Gone after
       by_error (error.Refused code shown) row = rw (row.1 ∙ read.reached) (behind _ (refuses read.reads row.0))
       by_error (error.ValueTooLong len) row =
           let it : MakesTooLong (rules_seen c t f old) (c.is_value old.codec) old.store given.value.value edit len = rw (read.same.codec, read.same.store) at row in

@@ -1,4 +1,4 @@
--- What an update knows stays so, whatever others do between two of its turns.
+-- What a call knows stays so, whatever others do between two of its turns.
 use Rattle.std.proofs.Common.{◌≡◌, ◌∙◌, inl, inr, ◌≤◌, ℕ, Bool, true, false, List, ◌++◌, length, Option, Some, None, IfSome, IsTrue, append_assoc, refl, sym, ap, arith, ◌∷◌}
 use Rattle.std.proofs.lemmas.List.{length-append}
 use Rattle.std.proofs.lemmas.List.Folds.{list_any-append}
@@ -9,7 +9,7 @@ use Rattle.hist_journal.specs.Quiet.{pending}
 use Rattle.folder_disk.specs.Contents.{Contents}
 use Rattle.shelf.specs.declared.store.Store.{Store}
 use Rattle.shelf.specs.CallOrder.{is_later}
-use Rattle.step_table.specs.Calls.{At, Call, First, Migrating, Finishing, Raising, Writing, Creating, Appending, SyncingScratch, Renaming, SyncingFolder, Gone, Changed, Kept, Plan}
+use Rattle.step_table.specs.Calls.{At, Call, First, Reading, Migrating, Finishing, Raising, Writing, Creating, Appending, SyncingScratch, Renaming, SyncingFolder, Gone, Changed, Kept, Plan}
 use Rattle.shelf.specs.Deaths.{has_died}
 use Rattle.shelf.specs.Entries.{is_any}
 use Rattle.shelf.specs.Legal.{value_at}
@@ -86,6 +86,7 @@ module _ {V T M : Type 0} (r : Rules V T) (s : Store V M) where
   -- a call that owns nothing knows nothing of contents
   nothing_known : (at : At V T) (folder : Contents) (list : List (EntrySeen V T)) → is_holding at ≡ false → KnowsContents r s at folder list
   nothing_known (First ask) folder list is = tt
+  nothing_known (Reading purpose ask) folder list is = tt
   nothing_known Gone folder list is = tt
   nothing_known other folder list is = never (sym is)
 

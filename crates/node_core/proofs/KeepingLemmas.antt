@@ -16,9 +16,9 @@ use Rattle.shelf.specs.Rules.{Rules}
 use Rattle.shelf.proofs.Bools.{never}
 use Rattle.shelf.proofs.LedgerLemmas.{quiet_ended, quiet_other}
 use Rattle.shelf.proofs.SameCalls.{itself}
-use Rattle.step_table.specs.Calls.{At, Call, Initialise, Serve, Gone, Reply, is_gone}
+use Rattle.step_table.specs.Calls.{At, Call, Initialise, Serve, ServeUnlocked, Gone, Reply, is_gone}
 use Rattle.step_table.specs.Effects.{Comes, Effect, Next, Waits, at_by, gave_by}
-use Rattle.step_table.specs.Rows.{Row, piece_written, takes_first, takes, loads, migrates, finishes, keeps, changes, raises, creates, appends, syncs_scratch, renames}
+use Rattle.step_table.specs.Rows.{Row, piece_written, takes_first, takes, goes_without, loads, migrates, finishes, keeps, changes, raises, creates, appends, syncs_scratch, renames}
 use Rattle.step_table.specs.Turn.{Turn}
 use Rattle.step_table.specs.World.{World, Turned, begin}
 use Rattle.step_table.specs.declared.progress.Progress.{Progress}
@@ -28,15 +28,16 @@ use Rattle.step_table.proofs.Waiting.{turn_waits}
 use Rattle.node_core.specs.Knows.{Knows}
 use Rattle.node_core.specs.Reading.{ReadsTruly}
 use Rattle.node_core.proofs.KeepingOn.{due_on, is_early-push, knows_begun, knows_behind, knows_on, standing}
-use Rattle.node_core.proofs.KeepingReads.{Begun, due_new, knows_taken}
+use Rattle.node_core.proofs.KeepingReads.{Begun, due_new, knows_to_read}
 use Rattle.node_core.proofs.KeepingWrites.{due_written, plan_fills, text_fills}
 use Rattle.node_core.proofs.MovingLemmas.{moves, moved_row}
 
 module _ {V T M : Type 0} (r : Rules V T) (s : Store V M) where
   row_keeps : (t : Turned V T) {at : At V T} {e : Effect V T} → Row r s t.world t.call.id at e → moves e.next ≡ true → Comes t e Moved
       → Knows r s t.world (standing at t.call) → ReadsTruly r s t.world → Begun r s t.call → Knows r s t.world_after t.call_after
-  row_keeps t (takes_first may unready) is comes k reads begun = knows_taken r s t Initialise k begun unready comes.world comes.call
-  row_keeps t (takes may ready) is comes k reads begun = knows_taken r s t Serve k begun ready comes.world comes.call
+  row_keeps t (takes_first may unready) is comes k reads begun = knows_to_read r s t Initialise (Some t.call.id) k begun (λ locked. (refl, unready)) comes.world comes.call
+  row_keeps t (takes may ready) is comes k reads begun = knows_to_read r s t Serve (Some t.call.id) k begun (λ locked. (refl, ready)) comes.world comes.call
+  row_keeps t (goes_without another need_not) is comes k reads begun = knows_to_read r s t ServeUnlocked t.world.owner k begun never comes.world comes.call
   row_keeps t (loads read) is comes k reads begun = knows_on r s t k refl comes.world comes.call k.entries tt refl refl (λ told. reads told _ (read told))
   row_keeps t (migrates {value = value} none) is comes k reads begun =
       knows_on r s t k refl comes.world comes.call k.entries tt refl refl (λ told. record { value = value; held = k.contents told })

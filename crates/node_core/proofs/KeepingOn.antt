@@ -47,7 +47,7 @@ module _ {V T : Type 0} where
 module _ {V T M : Type 0} (r : Rules V T) (s : Store V M) where
   -- a plan is due as long as the value stays
   pub due_on : (old now : List (EntrySeen V T)) (plan : Plan V T) → value_at r.meanings s now ≡ value_at r.meanings s old → IsDue r s old plan → IsDue r s now plan
-  due_on old now plan same d = record { value = d.value; allowed = rw same d.allowed; makes = rw same d.makes; text = d.text }
+  due_on old now plan same d = record { allowed = rw same d.allowed; makes = rw same d.makes; text = d.text }
 
   -- a call that begins its turn knows what it knew
   pub knows_begun : (t : Turned V T) → Knows r s t.world t.call → Knows r s t.world (begin t).call

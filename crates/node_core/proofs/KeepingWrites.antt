@@ -32,7 +32,6 @@ module _ {V T M : Type 0} (r : Rules V T) (s : Store V M) where
   pub due_written : (list : List (EntrySeen V T)) (plan : Plan V T) → IsDue r s list plan → IsDue r s list (piece_written plan)
   due_written list plan d =
       record {
-        value = d.value;
         allowed = d.allowed;
         makes = d.makes;
         text =

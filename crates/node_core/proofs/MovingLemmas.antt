@@ -1,16 +1,15 @@
 -- A call that moved did its row's work and has not ended, and a call that has not ended has turns left.
-use Rattle.std.proofs.Common.{◌≡◌, ◌⊎◌, inl, inr, ◌≤◌, ℕ, Bool, true, false, refl, sym, ap, arith}
+use Rattle.std.proofs.Common.{◌≡◌, ◌∙◌, ◌≤◌, ℕ, Bool, true, false, not, Some, refl, sym, ap, arith}
 use Rattle.shelf.specs.declared.store.Store.{Store}
-use Rattle.shelf.specs.Ledger.{freed}
 use Rattle.shelf.specs.Rules.{Rules}
 use Rattle.shelf.proofs.Bools.{never}
-use Rattle.step_table.specs.Calls.{At, First, Reading, Initialise, Writing, Creating, Gone, is_first, is_gone}
+use Rattle.step_table.specs.Calls.{At, First, Reading, Initialise, Writing, Creating, Gone, is_gone}
 use Rattle.step_table.specs.Effects.{Effect, Next, Goes, Comes, gave_by}
-use Rattle.step_table.specs.Rows.{Row, waits, finishes}
+use Rattle.step_table.specs.Rows.{Row, waits, goes_without, finishes}
 use Rattle.step_table.specs.Turn.{AllowedBy, RowOf, Turn, has_died_by, dies_now}
 use Rattle.step_table.specs.World.{Turned, World, begin}
 use Rattle.step_table.specs.declared.progress.Progress.TheVariants.{Moved}
-use Rattle.step_table.proofs.Waiting.{first_goes_on}
+use Rattle.step_table.proofs.LockLemmas.{not_freed}
 use Rattle.node_core.specs.Phases.{is_holding}
 use Rattle.node_core.specs.StepsLeft.{steps_left}
 
@@ -23,17 +22,6 @@ module _ {V T : Type 0} where
   moved_moves : (next : Next V T) → Moved ≡ gave_by next → moves next ≡ true
   moved_moves (Goes lock at) is = refl
   moved_moves other is = cc
-
-  -- a call that owns the lock has not ended
-  holding_goes_on : (at : At V T) → is_holding at ≡ true → is_gone at ≡ false
-  holding_goes_on Gone is = never is
-  holding_goes_on other is = refl
-
-  -- a call that owns nothing and has not ended is at a first turn
-  pub at_first : (at : At V T) → is_holding at ≡ false → is_gone at ≡ false → is_first at ≡ true
-  at_first (First ask) free running = refl
-  at_first Gone free running = never (sym running)
-  at_first other free running = never (sym free)
 
   pub has_left : (limit : ℕ) (initialised : Bool) (at : At V T) → is_gone at ≡ false → 1 ≤ steps_left limit initialised at
   has_left limit true (First ask) running = omega arith
@@ -55,17 +43,22 @@ module _ {V T M : Type 0} (r : Rules V T) (s : Store V M) where
       let is = moved_moves turn.effect.next turn.comes.given in
       (row_by (is_gone t.call.at) (has_died_by (begin t)) (dies_now (begin t)) (begin t) turn.effect turn.allowed is, is)
 
-  -- the call owns the lock still, or is at its first step and has freed it
-  abbrev pub HoldsOrBegins : Turned V T → Type 0
-  HoldsOrBegins t = (is_holding t.call_after.at ≡ true) ⊎ ((is_first t.call_after.at ≡ true) × (t.world_after.owner ≡ freed t.call.id t.world.owner))
+  -- the call has not ended, and where it owns the lock behind it, it holds it
+  abbrev RunsOn : Turned V T → Type 0
+  RunsOn t = (is_gone t.call_after.at ≡ false) × (t.world_after.owner ≡ Some t.call.id → is_holding t.call_after.at ≡ true)
 
-  row_goes : (t : Turned V T) {at : At V T} {e : Effect V T} → Row r s t.world t.call.id at e → moves e.next ≡ true → Comes t e Moved → HoldsOrBegins t
-  row_goes t (waits another) is comes = never is
-  row_goes t finishes is comes = inr (rw comes.call refl, ap (λ (w : World V T). w.owner) comes.world)
-  row_goes t other is comes = inl (rw comes.call is)
+  row_runs : (t : Turned V T) {at : At V T} {e : Effect V T} → Row r s t.world t.call.id at e → moves e.next ≡ true → Comes t e Moved → RunsOn t
+  row_runs t (waits another must) is comes = never is
+  row_runs t finishes is comes = (rw comes.call refl, λ owns. absurd (not_freed t.call.id t.world.owner (sym (ap (λ (w : World V T). w.owner) comes.world) ∙ owns)))
+  row_runs t (goes_without another need_not) is comes =
+      (rw comes.call refl, λ owns. absurd (let own : t.world.owner ≡ Some t.call.id = sym (ap (λ (w : World V T). w.owner) comes.world) ∙ owns in (rw own at another) refl))
+  row_runs t other is comes = (rw comes.call (ap not is), λ owns. rw comes.call is)
 
-  pub moved_goes : (t : Turned V T) → Turn r s t Moved → HoldsOrBegins t
-  moved_goes t turn = let row = moved_row t turn in row_goes (begin t) row.0 row.1 turn.comes
+  moved_on : (t : Turned V T) → Turn r s t Moved → RunsOn t
+  moved_on t turn = let row = moved_row t turn in row_runs (begin t) row.0 row.1 turn.comes
 
   pub moved_runs : (t : Turned V T) → Turn r s t Moved → is_gone t.call_after.at ≡ false
-  moved_runs t turn = elim (moved_goes t turn) [ inl holds ↦ holding_goes_on t.call_after.at holds | inr first ↦ first_goes_on r s t.call_after.at first.0 ]
+  moved_runs t turn = (moved_on t turn).0
+
+  pub moved_holds : (t : Turned V T) → Turn r s t Moved → t.world_after.owner ≡ Some t.call.id → is_holding t.call_after.at ≡ true
+  moved_holds t turn = (moved_on t turn).1

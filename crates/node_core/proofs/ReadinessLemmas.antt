@@ -1,8 +1,6 @@
 -- A node that a call has initialised is initialised at the call's next first turn.
-use Rattle.std.proofs.Common.{◌≡◌, ◌∙◌, Bool, true, false, List, ◌++◌, unwrap_or, refl, sym, ap}
-use Rattle.std.specs.List.{list_any}
-use Rattle.std.proofs.lemmas.Bool.{eq-eqb, or_parts}
-use Rattle.std.proofs.lemmas.List.Folds.{list_any-append}
+use Rattle.std.proofs.Common.{◌≡◌, ◌∙◌, Bool, true, false, List, ◌++◌, unwrap_or, refl, ap}
+use Rattle.std.proofs.lemmas.Bool.{eq-eqb}
 use Rattle.store_traits.specs.declared.ids.NodeId.{NodeId}
 use Rattle.hist_journal.specs.declared.seen.EntrySeen.{EntrySeen}
 use Rattle.hist_journal.specs.declared.seen.KindSeen.{KindSeen}
@@ -11,19 +9,16 @@ use Rattle.hist_journal.specs.Kinds.{is_death_of, is_node}
 use Rattle.hist_journal.specs.Nodes.{is_ready, mark_if, ready_mark}
 use Rattle.hist_journal.proofs.NodeLemmas.{is_ready-push}
 use Rattle.shelf.specs.declared.store.Store.{Store}
-use Rattle.shelf.specs.Entries.{is_death}
 use Rattle.shelf.specs.Meanwhile.{NoDeathOf}
 use Rattle.shelf.specs.Rules.{Rules}
 use Rattle.shelf.proofs.Bools.{never}
-use Rattle.shelf.proofs.DeathLemmas.{none_of_node}
 use Rattle.shelf.proofs.MeanwhileLemmas.{carried, spared_parts}
-use Rattle.step_table.specs.Calls.{At, Call, is_first}
+use Rattle.step_table.specs.Calls.{At, is_first}
 use Rattle.step_table.specs.Effects.{Comes, Effect}
 use Rattle.step_table.specs.Rows.{Row, waits, finishes}
 use Rattle.step_table.specs.Turn.{Turn}
-use Rattle.step_table.specs.World.{World, Turned, begin}
+use Rattle.step_table.specs.World.{Turned, begin}
 use Rattle.step_table.specs.declared.progress.Progress.TheVariants.{Moved}
-use Rattle.node_core.specs.Between.{Between}
 use Rattle.node_core.proofs.MovingLemmas.{moves, moved_row}
 
 marked : (same : Bool) → unwrap_or (mark_if same true) true ≡ true
@@ -44,24 +39,13 @@ module _ {V T : Type 0} (node : NodeId) where
       list
       more
 
-module _ {V T : Type 0} where
-  -- no node has died
-  abbrev pub NoneDied : List (EntrySeen V T) → Type 0
-  NoneDied list = list_any (λ (e : EntrySeen V T). is_death e.kind) list ≡ false
-
-  -- so whatever others do, where none has died
-  pub between_stays_ready : {c : Call V T} {last now : World V T} → Between c last now → NoneDied now.history → is_ready c.id.node last.history ≡ true → is_ready c.id.node now.history ≡ true
-  between_stays_ready {c} {last} {now} b alive is =
-      let more = or_parts (list_any (λ (e : EntrySeen V T). is_death e.kind) last.history) (list_any (λ (e : EntrySeen V T). is_death e.kind) b.more) (sym (list_any-append (λ (e : EntrySeen V T). is_death e.kind) last.history b.more) ∙ (rw b.grew at alive)) in
-      rw b.grew (stays_ready c.id.node last.history b.more (none_of_node c.id.node b.more more.1) is)
-
 module _ {V T M : Type 0} (r : Rules V T) (s : Store V M) where
   -- a call whose next turn is a first one finds its node initialised
   abbrev FindsReady : Turned V T → Type 0
   FindsReady t = is_first t.call_after.at ≡ true → is_ready t.call.id.node t.world_after.history ≡ true
 
   row_finds : (t : Turned V T) {at : At V T} {e : Effect V T} → Row r s t.world t.call.id at e → moves e.next ≡ true → Comes t e Moved → FindsReady t
-  row_finds t (waits another) is comes first = never is
+  row_finds t (waits another must) is comes first = never is
   row_finds t finishes is comes first =
       rw comes.world (is_ready-push t.call.id.node t.world.history (record { who = t.call.id; kind = Inited t.call.id.node }) ∙ rw (eq-eqb t.call.id.node.0 t.call.id.node.0 refl) refl)
   row_finds t other is comes first = never (rw comes.call at first)

@@ -10,7 +10,7 @@ use Rattle.shelf.specs.ShelfSeen.{ShelfSeen}
 use Rattle.shelf.specs.WritingSteps.{is_writing}
 use Rattle.shelf.proofs.Bools.{never}
 use Rattle.shelf.proofs.MeanwhileLemmas as meanwhile
-use Rattle.step_table.specs.Calls.{At, Update, First, Serve, Reading, Creating, Writing, Gone, step_at}
+use Rattle.step_table.specs.Calls.{At, Update, Read, First, Serve, ServeUnlocked, Reading, Creating, Writing, Gone, step_at}
 use Rattle.node_core.specs.declared.origin.Origin.{Origin}
 use Rattle.node_core.specs.Between.{Undisturbed}
 use Rattle.node_core.specs.Phases.{is_holding, is_raised}
@@ -23,7 +23,10 @@ use Rattle.node_core.proofs.BetweenLemmas.{between_keeps_knowledge, owner_kept}
 pub writes_either : {V T : Type 0} (ready : Bool) (at : At V T) → is_writing (step_at ready at) ≡ is_raised at
 writes_either true (First (Update edit)) = refl
 writes_either false (First (Update edit)) = refl
+writes_either true (First Read) = refl
+writes_either false (First Read) = refl
 writes_either ready (Reading Serve (Update edit)) = refl
+writes_either ready (Reading Serve Read) = refl
 writes_either ready (Writing Creating plan) = refl
 writes_either ready other = refl
 
@@ -31,10 +34,11 @@ module _ {C F V T : Type 0} (c : codec_trait.Ghosts C V) (t : transform_trait.Gh
   -- whoever holds nothing needs nothing
   pub free_equipped : (at : At V T) (s : ShelfSeen C F V T) → is_holding at ≡ false → Equipped c t f at s
   free_equipped (First ask) s free = record { entries = omega arith; room = tt; may = λ told. tt }
+  free_equipped (Reading ServeUnlocked ask) s free = record { entries = omega arith; room = tt; may = λ told. tt }
   free_equipped Gone s free = record { entries = omega arith; room = tt; may = λ told. tt }
   free_equipped other s free = never (sym free)
 
-  module _ (origin : Origin) (initialised : Bool) (at : At V T) (now : ShelfSeen C F V T) (may : MayStep c t f origin initialised at now)
+  module _ (origin : Origin) (at : At V T) (now : ShelfSeen C F V T) (may : MayStep c t f origin at now)
       (lives : has_died origin.call.node origin.since now.list ≡ false) where
     -- what others left to a call that owns the lock
     undisturbed : is_holding at ≡ true → NoDeathOf origin.call.node may.between.more × Undisturbed (world_seen f may.last) (world_seen f now) may.between.more

@@ -1,5 +1,5 @@
 -- The turn in which an update's text becomes main.
-use Rattle.std.proofs.Common.{◌≡◌, ◌∙◌, ◌+◌, ℕ, true, false, List, [], ◌∷◌, length, length-append, append-nil, sym, ap, arith, subst}
+use Rattle.std.proofs.Common.{◌≡◌, ◌∙◌, ◌+◌, ℕ, true, false, List, [], ◌∷◌, Option, Some, length, length-append, append-nil, refl, sym, ap, arith, subst}
 use Rattle.store_traits.specs.declared.codec.Codec as codec_trait
 use Rattle.store_traits.specs.declared.ids.CallId.{CallId}
 use Rattle.store_traits.specs.declared.transform.Transform as transform_trait
@@ -21,16 +21,18 @@ use Rattle.shelf.specs.ShelfTurns.{Adds, FitInTurn}
 use Rattle.shelf.specs.Rules.{Rules}
 use Rattle.shelf.proofs.GoingOn.{GoesOn, edit_fits}
 use Rattle.step_table.specs.declared.progress.Progress.TheVariants.{Moved}
+use Rattle.step_table.specs.Caching.{if_edit}
 use Rattle.step_table.specs.Calls.{At, Changed, Plan, Renaming, SyncingFolder, Writing}
 use Rattle.step_table.specs.Effects.{raised_by}
 use Rattle.step_table.specs.Requests.{Rename, Serves}
 use Rattle.step_table.specs.Rows.{renames}
+use Rattle.value_cache.specs.Cached.{Cached}
 use Rattle.node_core.specs.declared.origin.Origin.{Origin}
 use Rattle.node_core.specs.Knows.{IsDue}
 use Rattle.node_core.specs.Plans.{HasEdit}
 use Rattle.node_core.specs.Ready.{Equipped, MayWrite}
 use Rattle.node_core.specs.Steps.{Steps}
-use Rattle.node_core.specs.Views.{filled, whole, world_seen}
+use Rattle.node_core.specs.Views.{Changing, filled, whole, world_seen}
 use Rattle.node_core.proofs.EquippedLemmas.{room_left}
 use Rattle.node_core.proofs.RowLemmas.{goes_on}
 
@@ -43,13 +45,13 @@ module _ {V T M : Type 0} where
       subst (λ (kind : KindSeen V T). FitInTurn m s call (kind ∷ []) list) (sym asked.is) (edit_fits call m s list goes asked.edit opened ready may, tt)
 
   -- the plan is the text of what it makes
-  pub writes_due : (r : Rules V T) (IsValue : V → Type 0) (s : Store V M) (list : List (EntrySeen V T)) (call : CallId) (kind : KindSeen V T) (bytes : List ℕ) → IsDue r s list (whole kind bytes) → MayWrite r IsValue s list (whole kind bytes)
-      → WritesChange r IsValue s list (record { who = call; kind = kind }) bytes
-  writes_due r IsValue s list call kind bytes due may =
+  pub writes_due : (r : Rules V T) (IsValue : V → Type 0) (s : Store V M) (list : List (EntrySeen V T)) (call : CallId) (change : Changing V T) (bytes : List ℕ) → IsDue r s list (whole change bytes) → MayWrite r IsValue s list (whole change bytes)
+      → WritesChange r IsValue s list (record { who = call; kind = change.kind }) bytes
+  writes_due r IsValue s list call change bytes due may =
       record {
-        value = due.value;
-        makes = value_of-push r.meanings.after s.base list (record { who = call; kind = kind }) ∙ due.makes;
-        writes = record { text = sym (append-nil bytes) ∙ due.text; may = may due.value due.makes };
+        value = change.value;
+        makes = value_of-push r.meanings.after s.base list (record { who = call; kind = change.kind }) ∙ due.makes;
+        writes = record { text = sym (append-nil bytes) ∙ due.text; may = may change.value due.makes };
       }
 
 module _ {V T : Type 0} where
@@ -57,8 +59,12 @@ module _ {V T : Type 0} where
   pub raises_nothing : (plan : Plan V T) (version : ℕ) → HasEdit plan → raised_by (plan.change ∷ []) version ≡ version
   raises_nothing plan version asked = ap (λ (kind : KindSeen V T). raised_by (kind ∷ []) version) asked.is
 
+  -- but it is published
+  pub publishes_edit : (plan : Plan V T) (cached : Cached V) → HasEdit plan → ◌≡◌ {A = Option (Cached V)} (Some cached) (if_edit plan.change cached)
+  publishes_edit plan cached asked = rw asked.is refl
+
 -- a text of which nothing is left is whole
-pub on_whole : {C F V T : Type 0} (c : codec_trait.Ghosts C V) (t : transform_trait.Ghosts T V) (f : folder_trait.Ghosts F) (origin : Origin) (at : At V T) (old new : ShelfSeen C F V T) (change : KindSeen V T) (text : Filling) → text.rest ≡ []
+pub on_whole : {C F V T : Type 0} (c : codec_trait.Ghosts C V) (t : transform_trait.Ghosts T V) (f : folder_trait.Ghosts F) (origin : Origin) (at : At V T) (old new : ShelfSeen C F V T) (change : Changing V T) (text : Filling) → text.rest ≡ []
     → Steps c t f origin at old Moved (Writing Renaming (filled change text)) new → Steps c t f origin at old Moved (Writing Renaming (whole change text.written)) new
 on_whole c t f origin at old new change text none =
     subst (λ (rest : List ℕ). Steps c t f origin at old Moved (Writing Renaming (filled change (record { written = text.written; rest = rest }))) new) none

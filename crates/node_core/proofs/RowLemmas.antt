@@ -1,5 +1,5 @@
 -- What a turn of the shelf leaves, as a step of the table.
-use Rattle.std.proofs.Common.{◌≡◌, ◌∙◌, ◌+◌, ℕ, true, false, List, [], length, Option, Result, Err, IsTrue, refl, ap}
+use Rattle.std.proofs.Common.{◌≡◌, ◌∙◌, ◌+◌, ℕ, true, false, List, [], length, Option, IsTrue, refl, ap}
 use Rattle.store_traits.specs.declared.codec.Codec as codec_trait
 use Rattle.store_traits.specs.declared.ids.CallId.{CallId}
 use Rattle.store_traits.specs.declared.transform.Transform as transform_trait
@@ -13,7 +13,7 @@ use Rattle.shelf.specs.Ledger.{freed}
 use Rattle.shelf.specs.ShelfSeen.{ShelfSeen}
 use Rattle.shelf.specs.ShelfTurns.{Faults, Frees, Leaves}
 use Rattle.step_table.specs.declared.progress.Progress.TheVariants.{Moved, Ended}
-use Rattle.step_table.specs.Calls.{At, Gone, Plan, Stage, Writing, reply_of}
+use Rattle.step_table.specs.Calls.{At, Failed, Gone, Plan, Reply, Stage, Writing}
 use Rattle.step_table.specs.Effects.{Comes, Effect, Ends, FolderUse, Unused, Served, Faulted, Goes, LockMove, Next, all_kinds, at_by, fails, gave_by, owner_by, raised_by}
 use Rattle.step_table.specs.Requests.{Request, Serves, call_of}
 use Rattle.step_table.specs.Requests as request
@@ -82,11 +82,11 @@ module _ {C F V T : Type 0} (c : codec_trait.Ghosts C V) (t : transform_trait.Gh
         }
 
     -- or ends
-    pub ends : {answer : Result ℕ UpdateError} {kinds : List (KindSeen V T)} {used : FolderUse} {room : ℕ} → LineOf (Ends (reply_of answer)) kinds used
-        → LeavesBy f old new kinds used (Ends (reply_of answer)) origin.call room → Touches f old new kinds used → Steps c t f origin at old (Ended answer) Gone new
-    ends {answer} {kinds} {used} {room} line leaves touches =
+    pub ends : {reply : Reply V} {kinds : List (KindSeen V T)} {used : FolderUse} {room : ℕ} → LineOf (Ends reply) kinds used
+        → LeavesBy f old new kinds used (Ends reply) origin.call room → Touches f old new kinds used → Steps c t f origin at old (Ended reply) Gone new
+    ends {reply} {kinds} {used} {room} line leaves touches =
         record {
-          row = record { effect = _; row = line; comes = comes f old new kinds origin at (Ends (reply_of answer)) used room leaves touches };
+          row = record { effect = _; row = line; comes = comes f old new kinds origin at (Ends reply) used room leaves touches };
           equips = tt;
           store = leaves.store;
           codec = leaves.codec;
@@ -94,20 +94,20 @@ module _ {C F V T : Type 0} (c : codec_trait.Ghosts C V) (t : transform_trait.Gh
         }
 
     -- or ends behind what it asked of the folder, and then the lock is freed
-    pub ends_behind : (mid : ShelfSeen C F V T) {answer : Result ℕ UpdateError} {kinds : List (KindSeen V T)} {request : Request} {room : ℕ}
-        → LineOf (Ends (reply_of answer)) kinds (Served request) → Leaves origin.call kinds old.owner room old mid → Serves request false (world_seen f old) (world_seen f mid)
-        → Frees origin.call [] mid new → new.folder ≡ mid.folder → Steps c t f origin at old (Ended answer) Gone new
+    pub ends_behind : (mid : ShelfSeen C F V T) {reply : Reply V} {kinds : List (KindSeen V T)} {request : Request} {room : ℕ}
+        → LineOf (Ends reply) kinds (Served request) → Leaves origin.call kinds old.owner room old mid → Serves request false (world_seen f old) (world_seen f mid)
+        → Frees origin.call [] mid new → new.folder ≡ mid.folder → Steps c t f origin at old (Ended reply) Gone new
     ends_behind mid line leaves serves frees same = ends line (then_frees leaves frees) (record { folder = λ told. rw same (serves.folder told); tally = rw same serves.tally })
 
     -- or the folder fails, and it ends
     pub faults : (request : Request) (error : ℕ → UpdateError) (place : ℕ) → Line (fails request (error (length old.list + 1))) → Faults origin.call (f.tally new.folder).count place old new
-        → Serves request true (world_seen f old) (world_seen f new) → Steps c t f origin at old (Ended (Err (error place))) Gone new
+        → Serves request true (world_seen f old) (world_seen f new) → Steps c t f origin at old (Ended (Failed (error place))) Gone new
     faults request error place line failed serves =
-        rw failed.place (ends {answer = Err (error (length old.list + 1))} {kinds = []} {used = Faulted request} line failed.leaves (refl, serves))
+        rw failed.place (ends {reply = Failed (error (length old.list + 1))} {kinds = []} {used = Faulted request} line failed.leaves (refl, serves))
 
 -- where a write meets a folder that fails
 pub write_faults : {C F V T : Type 0} (c : codec_trait.Ghosts C V) (t : transform_trait.Ghosts T V) (f : folder_trait.Ghosts F) (origin : Origin) (stage : Stage) (plan : Plan V T) (place : ℕ) (old new : ShelfSeen C F V T)
     → Faults origin.call (f.tally new.folder).count place old new → (IsTrue f.told → request.Leaves (request_of stage plan) true (f.contents old.folder) (f.contents new.folder))
-    → Tallies f.told (call_of (request_of stage plan)) true (f.tally old.folder) (f.tally new.folder) → Steps c t f origin (Writing stage plan) old (Ended (Err (StorageFault place))) Gone new
+    → Tallies f.told (call_of (request_of stage plan)) true (f.tally old.folder) (f.tally new.folder) → Steps c t f origin (Writing stage plan) old (Ended (Failed (StorageFault place))) Gone new
 write_faults c t f origin stage plan place old new failed folder tally =
     faults c t f origin (Writing stage plan) old new (request_of stage plan) StorageFault place write_fails failed (record { folder = folder; tally = tally })

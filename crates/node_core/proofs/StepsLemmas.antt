@@ -8,7 +8,7 @@ use Rattle.shelf.specs.Rules.{Rules}
 use Rattle.shelf.proofs.Bools.{never}
 use Rattle.step_table.specs.Calls.{At, Plan, Appending, SyncingScratch, is_first}
 use Rattle.step_table.specs.Effects.{Effect, at_by}
-use Rattle.step_table.specs.Rows.{Row, filling, piece_written, takes_first, takes, loads, migrates, finishes, keeps, changes, raises, creates, appends, syncs_scratch, renames}
+use Rattle.step_table.specs.Rows.{Row, filling, piece_written, takes_first, takes, goes_without, loads, migrates, finishes, keeps, changes, raises, creates, appends, syncs_scratch, renames}
 use Rattle.step_table.specs.Turn.{Turn}
 use Rattle.step_table.specs.World.{Turned, World}
 use Rattle.step_table.specs.declared.progress.Progress.TheVariants.{Moved}
@@ -45,6 +45,7 @@ module _ {V T M : Type 0} (r : Rules V T) (s : Store V M) (initialised : Bool) w
       → steps_left s.limits.file (initialised || is_finishing at) (at_by e.next at) < steps_left s.limits.file initialised at
   row_steps w call (takes_first may none) is plan known = unready s.limits.file initialised (λ it. sym none ∙ known it refl)
   row_steps w call (takes may ready) is plan known = fewer s.limits.file initialised
+  row_steps w call (goes_without another need_not) is plan known = fewer s.limits.file initialised
   row_steps w call (loads read) is plan known = omega arith
   row_steps w call (migrates none) is plan known = omega arith
   row_steps w call finishes is plan known = once_initialised s.limits.file initialised

@@ -1,4 +1,4 @@
--- What an update knows of the world between two of its turns.
+-- What a call knows of the world between two of its turns.
 use Rattle.std.specs.Prelude.{◌≡◌, ◌↔◌, ◌≤◌, ℕ, true, false, not, List, ◌++◌, length, Some, IfSome, IsTrue}
 use Rattle.std.specs.List.{list_any}
 use Rattle.hist_journal.specs.declared.seen.BaseSeen.TheVariants.{Held}
@@ -22,10 +22,9 @@ use Rattle.node_core.specs.Phases.{is_holding, is_initialising, is_raised}
 module _ {V T M : Type 0} (r : Rules V T) (s : Store V M) where
   -- the plan is the text of the value that its change makes of the one now
   pub record IsDue (list : List (EntrySeen V T)) (plan : Plan V T) : Type 0 where
-    pub value : V
     pub allowed : MakesValue r.meanings.after s.handler (value_at r.meanings s list) plan.change
-    pub makes : value_after r.meanings.after (value_at r.meanings s list) plan.change ≡ Held value
-    pub text : plan.text.written ++ plan.text.rest ≡ r.encoded value
+    pub makes : value_after r.meanings.after (value_at r.meanings s list) plan.change ≡ Held plan.value
+    pub text : plan.text.written ++ plan.text.rest ≡ r.encoded plan.value
 
   -- so much of it is in the scratch file
   pub record IsInScratch (folder : Contents) (list : List (EntrySeen V T)) (plan : Plan V T) : Type 0 where

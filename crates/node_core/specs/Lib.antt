@@ -2,12 +2,15 @@ pub mod Applying
 pub mod Between
 pub mod Initialising
 pub mod Knows
+pub mod Locking
+pub mod Looking
 pub mod Own
 pub mod Phases
 pub mod Plans
-pub mod ReadHeld
+pub mod ReadMain
 pub mod Reading
 pub mod Ready
+pub mod Shown
 pub mod Step
 pub mod Steps
 pub mod StepsLeft

@@ -1,11 +1,11 @@
--- Which entries of an update stand in the history, by its next step.
+-- Which entries of a call stand in the history, by its next step.
 use Rattle.std.specs.Prelude.{◌≡◌, ◌+◌, ℕ, Bool, true, false, List, ◌∷◌, ◌++◌, length}
 use Rattle.std.specs.List.{list_any}
 use Rattle.store_traits.specs.declared.ids.CallId.{CallId}
 use Rattle.hist_journal.specs.declared.seen.EntrySeen.{EntrySeen}
 use Rattle.hist_journal.specs.declared.seen.KindSeen.{KindSeen}
 use Rattle.hist_journal.specs.declared.seen.KindSeen.TheVariants.{Raise, Edit, Inited}
-use Rattle.step_table.specs.Calls.{Update, At, First, Reading, Migrating, Finishing, Raising, Writing, SyncingFolder, Gone, Changed, Kept, Plan}
+use Rattle.step_table.specs.Calls.{Ask, Update, Read, At, First, Reading, Migrating, Finishing, Raising, Writing, SyncingFolder, Gone, Changed, Kept, Plan}
 use Rattle.shelf.specs.Entries.{is_own}
 use Rattle.shelf.specs.Meanwhile.{NoneOf}
 
@@ -38,14 +38,19 @@ module _ {V T : Type 0} where
   abbrev pub WritesEdit : T → Plan V T → Type 0
   WritesEdit edit plan = plan.change ≡ Edit edit
 
-  -- what is left to do is for this transform, or was done with it
-  abbrev pub IsFor : CallId → T → At V T → List (EntrySeen V T) → Type 0
-  IsFor call edit (First ask) list = ask ≡ Update edit
-  IsFor call edit (Reading purpose ask) list = ask ≡ Update edit
-  IsFor call edit (Migrating ask value) list = ask ≡ Update edit
-  IsFor call edit (Finishing ask) list = ask ≡ Update edit
-  IsFor call edit (Raising plan) list = WritesEdit edit plan
-  IsFor call edit (Writing stage plan) list = WritesEdit edit plan
-  IsFor call edit (SyncingFolder (Kept asked)) list = asked ≡ edit
-  IsFor call edit (SyncingFolder (Changed place)) list = (changed : HasChanged call place list) × (changed.edit ≡ edit)
-  IsFor call edit Gone list = Unit {0}
+  -- a read writes nothing
+  abbrev pub WritesFor : Ask T → Plan V T → Type 0
+  WritesFor (Update edit) plan = WritesEdit edit plan
+  WritesFor Read plan = ⊥
+
+  -- what is left to do is what was asked for, or was done for it
+  abbrev pub IsFor : CallId → Ask T → At V T → List (EntrySeen V T) → Type 0
+  IsFor call asked (First ask) list = ask ≡ asked
+  IsFor call asked (Reading purpose ask) list = ask ≡ asked
+  IsFor call asked (Migrating ask value) list = ask ≡ asked
+  IsFor call asked (Finishing ask) list = ask ≡ asked
+  IsFor call asked (Raising plan) list = WritesFor asked plan
+  IsFor call asked (Writing stage plan) list = WritesFor asked plan
+  IsFor call asked (SyncingFolder (Kept edit)) list = asked ≡ Update edit
+  IsFor call asked (SyncingFolder (Changed place)) list = (changed : HasChanged call place list) × (asked ≡ Update changed.edit)
+  IsFor call asked Gone list = Unit {0}

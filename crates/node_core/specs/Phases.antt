@@ -1,20 +1,23 @@
--- What each step of an update says of its call: what it owns, and how much room it has left.
+-- What each step says of its call: what it owns, and how much room it has left.
 use Rattle.std.specs.Prelude.{ℕ, Bool, true, false}
-use Rattle.step_table.specs.Calls.{At, First, Purpose, Initialise, Serve, Reading, Migrating, Finishing, Raising, Writing, SyncingFolder, Gone, Changed, Kept}
+use Rattle.shelf.specs.Takes.{most_entries}
+use Rattle.step_table.specs.Calls.{Ask, At, First, Purpose, Initialise, Serve, ServeUnlocked, Reading, Migrating, Finishing, Raising, Writing, SyncingFolder, Gone, Changed, Kept, initialises, want_of}
 
-abbrev pub initialises : Purpose → Bool
-initialises Initialise = true
-initialises Serve = false
+-- main is read under the lock
+abbrev pub is_locked : Purpose → Bool
+is_locked ServeUnlocked = false
+is_locked other = true
 
--- a holding adds an Inited or a Fault; or a Raise, an Edit and a Synced or a Fault
-abbrev pub most_for : Purpose → ℕ
-most_for Initialise = 1
-most_for Serve = 3
+abbrev pub room_for : {T : Type 0} → Purpose → Ask T → ℕ
+room_for Initialise ask = most_entries (want_of ask) false
+room_for Serve ask = most_entries (want_of ask) true
+room_for ServeUnlocked ask = 0
 
 module _ {V T : Type 0} where
   -- the call owns the lock
   abbrev pub is_holding : At V T → Bool
   is_holding (First ask) = false
+  is_holding (Reading purpose ask) = is_locked purpose
   is_holding Gone = false
   is_holding other = true
 
@@ -38,7 +41,7 @@ module _ {V T : Type 0} where
   -- how many entries its holding may still add
   abbrev pub room_at : At V T → ℕ
   room_at (First ask) = 0
-  room_at (Reading purpose ask) = most_for purpose
+  room_at (Reading purpose ask) = room_for purpose ask
   room_at (Migrating ask value) = 1
   room_at (Finishing ask) = 1
   room_at (Raising plan) = 3

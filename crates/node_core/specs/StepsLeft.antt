@@ -1,10 +1,11 @@
 -- How many turns a call has left at most, where none of them is blocked: one for each byte of what it writes, and some beside.
 use Rattle.std.specs.Prelude.{ℕ, ◌+◌, Bool, length, if◌then◌else◌}
-use Rattle.step_table.specs.Calls.{At, First, Purpose, Initialise, Serve, Reading, Migrating, Finishing, Raising, Writing, Stage, Creating, Appending, SyncingScratch, Renaming, SyncingFolder, Gone, Plan}
+use Rattle.step_table.specs.Calls.{At, First, Purpose, Initialise, Serve, ServeUnlocked, Reading, Migrating, Finishing, Raising, Writing, Stage, Creating, Appending, SyncingScratch, Renaming, SyncingFolder, Gone, Plan}
 
 abbrev pub behind_reading : Purpose → ℕ
 behind_reading Initialise = 10
 behind_reading Serve = 6
+behind_reading ServeUnlocked = 6
 
 abbrev pub writing_left : {V T : Type 0} → Stage → Plan V T → ℕ
 writing_left Creating plan = length plan.text.rest + 4

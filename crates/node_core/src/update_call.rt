@@ -1,7 +1,8 @@
 use crate::init_call::InitCall;
 use crate::origin::Origin;
 use crate::write_call::WriteCall;
-use shelf::Parts;
+use shelf::{Parts, ValueOf};
+use value_cache::CachedValue;
 
 mod at_step;
 mod step;
@@ -20,17 +21,31 @@ pub struct UpdateCall<P: Parts> {
 #[derive(Drop)]
 pub enum State<P: Parts> {
     /// The lock is to be taken.
-    First { edit: P::T },
+    First {
+        edit: P::T,
+    },
     /// The node is to be initialised first.
-    Initialise { edit: P::T, init: InitCall<P> },
+    Initialise {
+        edit: P::T,
+        init: InitCall<P>,
+    },
     /// Main is to be read, and the edit applied to its value.
-    Read { edit: P::T },
+    Read {
+        edit: P::T,
+    },
     /// The new value is to be written.
-    Write { write: WriteCall<P> },
-    /// The folder is to be synced, behind the value change at this place.
-    SyncChanged { at: u64 },
+    Write {
+        write: WriteCall<P>,
+    },
+    /// The folder is to be synced, behind the value change at this place, whose value is still to be published.
+    SyncChanged {
+        at: u64,
+        kept: Option<CachedValue<ValueOf<P>>>,
+    },
     /// The folder is to be synced, for an edit that kept the value.
-    SyncKept { edit: P::T },
+    SyncKept {
+        edit: P::T,
+    },
     /// The call has ended.
     Gone,
 }

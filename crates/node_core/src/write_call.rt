@@ -1,6 +1,7 @@
-use hist_journal::Kind;
+use crate::change::Change;
 use scratch_rename::{Filled, Fresh, Synced};
 use shelf::{Parts, ValueOf};
+use value_cache::CachedValue;
 
 mod stepping;
 
@@ -8,30 +9,15 @@ mod stepping;
 #[derive(Drop)]
 pub enum WriteCall<P: Parts> {
     /// The version is to be raised.
-    Raise {
-        plan: Fresh,
-        change: Kind<ValueOf<P>, P::T>,
-    },
+    Raise { plan: Fresh, change: Change<P> },
     /// The scratch file is to be made.
-    Create {
-        plan: Fresh,
-        change: Kind<ValueOf<P>, P::T>,
-    },
+    Create { plan: Fresh, change: Change<P> },
     /// Bytes are left to be appended.
-    Append {
-        plan: Filled,
-        change: Kind<ValueOf<P>, P::T>,
-    },
+    Append { plan: Filled, change: Change<P> },
     /// The scratch file is to be synced.
-    SyncScratch {
-        plan: Filled,
-        change: Kind<ValueOf<P>, P::T>,
-    },
+    SyncScratch { plan: Filled, change: Change<P> },
     /// It is to become main.
-    Rename {
-        plan: Synced,
-        change: Kind<ValueOf<P>, P::T>,
-    },
+    Rename { plan: Synced, change: Change<P> },
 }
 
 /// What a step of a write gives.
@@ -39,8 +25,13 @@ pub enum WriteCall<P: Parts> {
 pub enum Written<P: Parts> {
     /// The write goes on.
     Moved(WriteCall<P>),
-    /// Main is the new text, and the change is the entry at this place.
-    Changed { at: u64 },
+    /// Main is the new text, and the change is the entry at this place. Its value is to be published.
+    Changed {
+        at: u64,
+        kept: CachedValue<ValueOf<P>>,
+    },
     /// The folder failed, and its Fault is the entry at this place.
-    Faulted { at: u64 },
+    Faulted {
+        at: u64,
+    },
 }

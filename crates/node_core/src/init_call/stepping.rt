@@ -3,7 +3,7 @@ ghost use Rattle.hist_journal.specs.Folds.{raises_of};
 ghost use Rattle.hist_journal.specs.Nodes.{is_dead};
 ghost use Rattle.shelf.specs.AddsNode.{is_among};
 ghost use Rattle.step_table.specs.Calls as at;
-ghost use Rattle.step_table.specs.Calls.{Ask};
+ghost use Rattle.step_table.specs.Calls.{Ask, step_at};
 ghost use Rattle.shelf.specs.ShelfSeen.{shelf_seen};
 ghost use Rattle.node_core.specs.Initialising.{IsInitialising};
 ghost use Rattle.node_core.specs.Steps.{InitSteps, is_finished, is_last};
@@ -11,9 +11,10 @@ ghost use Rattle.node_core.specs.Views.{init_seen};
 
 use super::{InitCall, Initialised};
 use crate::origin::Origin;
-use crate::read_held::read_held;
+use crate::reading::read_main;
 use shelf::{Parts, Shelf};
 use std::alloc::Global;
+use store_traits::Step;
 
 impl<P: Parts> InitCall<P> {
     /// The next step of a call of this origin, which owns the lock, whatever it asks for.
@@ -33,6 +34,16 @@ impl<P: Parts> InitCall<P> {
         }
     }
 
+    pub fn at_step(&self) -> Step
+        ensures { (ask : Ask P.T) → result ≡ step_at true (init_seen ask self.now) }
+    {
+        match self {
+            InitCall::Read => Step::I2,
+            InitCall::Migrate { value: _ } => Step::I3,
+            InitCall::Finish => Step::I6,
+        }
+    }
+
     /// The step ends the initialisation.
     pub fn is_last(&self) -> bool
         ensures { result ≡ is_last self.now }
@@ -48,7 +59,7 @@ fn read_first<P: Parts>(origin: Origin, alloc: Global, shelf: &mut Shelf<P>) -> 
     ensures steps { (ask : Ask P.T) → InitSteps P.C.Codec P.T.Transform P.F.Folder origin ask (at.Reading at.Initialise ask) (shelf_seen shelf.old) result (shelf_seen shelf.new) }
     ensures raises { raises_of (shelf_seen shelf.new).list ≡ raises_of (shelf_seen shelf.old).list }
 {
-    match read_held(origin, alloc, shelf) {
+    match read_main(origin, alloc, shelf) {
         Ok(given) => Initialised::Moved(InitCall::Migrate { value: given.value }),
         Err(error) => Initialised::Ended(error),
     }

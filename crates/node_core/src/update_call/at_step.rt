@@ -1,9 +1,8 @@
 ghost use Rattle.std.specs.Prelude.{◌≡◌, true, if◌then◌else◌};
-ghost use Rattle.step_table.specs.Calls.{Ask, step_at};
-ghost use Rattle.node_core.specs.Views.{init_seen, state_seen, write_seen};
+ghost use Rattle.step_table.specs.Calls.{step_at};
+ghost use Rattle.node_core.specs.Views.{state_seen, write_seen};
 
 use super::{State, UpdateCall};
-use crate::init_call::InitCall;
 use crate::write_call::WriteCall;
 use shelf::Parts;
 use store_traits::Step;
@@ -26,7 +25,7 @@ impl<P: Parts> UpdateCall<P> {
             State::Initialise { edit: _, init } => init.at_step(),
             State::Read { edit: _ } => Step::U2,
             State::Write { write } => write.at_step(),
-            State::SyncChanged { at: _ } | State::SyncKept { edit: _ } => Step::U8,
+            State::SyncChanged { at: _, kept: _ } | State::SyncKept { edit: _ } => Step::U8,
             State::Gone => Step::I1,
         }
     }
@@ -36,18 +35,6 @@ fn first_step(ready: bool) -> Step
     ensures { result ≡ (if ready then Step.U1 else Step.I1) }
 {
     if ready { Step::U1 } else { Step::I1 }
-}
-
-impl<P: Parts> InitCall<P> {
-    fn at_step(&self) -> Step
-        ensures { (ask : Ask P.T) → result ≡ step_at true (init_seen ask self.now) }
-    {
-        match self {
-            InitCall::Read => Step::I2,
-            InitCall::Migrate { value: _ } => Step::I3,
-            InitCall::Finish => Step::I6,
-        }
-    }
 }
 
 impl<P: Parts> WriteCall<P> {

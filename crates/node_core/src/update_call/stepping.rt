@@ -1,24 +1,27 @@
-ghost use Rattle.std.specs.Prelude.{◌≡◌, ◌||◌, true, false};
+ghost use Rattle.std.specs.Prelude.{◌≡◌, ◌||◌, true, false, None};
 ghost use Rattle.hist_journal.specs.Folds.{raises_of};
 ghost use Rattle.hist_journal.specs.Nodes.{is_dead};
 ghost use Rattle.shelf.specs.AddsNode.{is_among};
+ghost use Rattle.step_table.specs.Caching.{published_by};
 ghost use Rattle.step_table.specs.Calls as at;
-ghost use Rattle.step_table.specs.Calls.{is_gone};
+ghost use Rattle.step_table.specs.Calls.{is_gone, replied};
 ghost use Rattle.shelf.specs.ShelfSeen.{shelf_seen};
 ghost use Rattle.node_core.specs.Phases.{is_finishing};
 ghost use Rattle.node_core.specs.Ready.{Ready};
 ghost use Rattle.node_core.specs.Steps.{Steps, is_last};
-ghost use Rattle.node_core.specs.Views.{init_seen, state_seen, write_seen};
+ghost use Rattle.node_core.specs.Views.{init_seen, kept_in, state_seen, world_seen, write_seen};
 
 use super::{State, UpdateCall};
-use crate::applying::apply;
+use crate::applying::{Made, apply};
+use crate::change::Change;
 use crate::init_call::{InitCall, Initialised};
+use crate::locking::{Locked, lock};
 use crate::origin::Origin;
 use crate::read_errors::as_update_error;
-use crate::read_held::read_held;
+use crate::reading::read_main;
 use crate::write_call::{WriteCall, Written};
 use hist_journal::Kind;
-use shelf::{Parts, Shelf, Taken, Want};
+use shelf::{Parts, Shelf, Want};
 use std::alloc::Global;
 use std::mem;
 use step_table::Progress;
@@ -38,7 +41,8 @@ impl<P: Parts> UpdateCall<P> {
         requires node { is_among self.old.origin.call.node (shelf_seen shelf.old).store.nodes ≡ true }
         requires ready { Ready P.C.Codec P.T.Transform P.F.Folder self.old.origin (state_seen self.old.state) (shelf_seen shelf.old) }
         requires lives { is_dead self.old.origin.call.node (shelf_seen shelf.old).list ≡ false }
-        ensures steps { Steps P.C.Codec P.T.Transform P.F.Folder self.old.origin (state_seen self.old.state) (shelf_seen shelf.old) result (state_seen self.new.state) (shelf_seen shelf.new) }
+        ensures steps { Steps P.C.Codec P.T.Transform P.F.Folder self.old.origin (state_seen self.old.state) (shelf_seen shelf.old) (replied result) (state_seen self.new.state) (shelf_seen shelf.new) }
+        ensures published { kept_in self.new.state ≡ published_by (state_seen self.old.state) (replied result) (world_seen P.F.Folder (shelf_seen shelf.new)) }
         ensures number { W.number word.new ≡ raises_of (shelf_seen shelf.new).list }
         ensures made { W.made word.new ≡ W.made word.old }
         ensures origin { self.new.origin ≡ self.old.origin }
@@ -67,7 +71,8 @@ impl<P: Parts> State<P> {
         requires node { is_among origin.call.node (shelf_seen shelf.old).store.nodes ≡ true }
         requires ready { Ready P.C.Codec P.T.Transform P.F.Folder origin (state_seen self) (shelf_seen shelf.old) }
         requires lives { is_dead origin.call.node (shelf_seen shelf.old).list ≡ false }
-        ensures steps { Steps P.C.Codec P.T.Transform P.F.Folder origin (state_seen self) (shelf_seen shelf.old) result.1 (state_seen result.0) (shelf_seen shelf.new) }
+        ensures steps { Steps P.C.Codec P.T.Transform P.F.Folder origin (state_seen self) (shelf_seen shelf.old) (replied result.1) (state_seen result.0) (shelf_seen shelf.new) }
+        ensures published { kept_in result.0 ≡ published_by (state_seen self) (replied result.1) (world_seen P.F.Folder (shelf_seen shelf.new)) }
         ensures number { W.number word.new ≡ raises_of (shelf_seen shelf.new).list }
         ensures made { W.made word.new ≡ W.made word.old }
     {
@@ -76,7 +81,7 @@ impl<P: Parts> State<P> {
             State::Initialise { edit, init } => initialise(origin, alloc, shelf, edit, init),
             State::Read { edit } => read(origin, alloc, shelf, edit),
             State::Write { write } => write_on(origin, shelf, word, write),
-            State::SyncChanged { at } => sync_changed(origin, shelf, at),
+            State::SyncChanged { at, kept: _ } => sync_changed(origin, shelf, at),
             State::SyncKept { edit } => sync_kept(origin, shelf, edit),
             State::Gone => unreachable!(),
         }
@@ -101,25 +106,19 @@ fn take<P: Parts>(
     edit: P::T,
 ) -> (State<P>, Progress<Result<u64, UpdateError>>)
     requires ready { Ready P.C.Codec P.T.Transform P.F.Folder origin (at.First (at.Update edit)) (shelf_seen shelf.old) }
-    ensures steps { Steps P.C.Codec P.T.Transform P.F.Folder origin (at.First (at.Update edit)) (shelf_seen shelf.old) result.1 (state_seen result.0) (shelf_seen shelf.new) }
+    ensures steps { Steps P.C.Codec P.T.Transform P.F.Folder origin (at.First (at.Update edit)) (shelf_seen shelf.old) (replied result.1) (state_seen result.0) (shelf_seen shelf.new) }
+    ensures unpublished { kept_in result.0 ≡ None }
     ensures raises { raises_of (shelf_seen shelf.new).list ≡ raises_of (shelf_seen shelf.old).list }
 {
-    match shelf.take(alloc, origin.call, Want::Update) {
-        Taken::Init => {
+    match lock(origin, alloc, shelf, Want::Update) {
+        Ok(Locked::Initialise) => {
             let init = InitCall::Read;
             (State::Initialise { edit, init }, Progress::Moved)
         }
-        Taken::Held => (State::Read { edit }, Progress::Moved),
-        Taken::Blocked => (State::First { edit }, Progress::Blocked),
-        Taken::HistoryFull { entries, weight } => {
-            shelf.free(origin.call);
-            let full = UpdateError::HistoryFull { entries, weight };
-            (State::Gone, Progress::Ended(Err(full)))
-        }
-        Taken::NoMemory => {
-            shelf.free(origin.call);
-            (State::Gone, Progress::Ended(Err(UpdateError::NoMemory)))
-        }
+        Ok(Locked::Held) => (State::Read { edit }, Progress::Moved),
+        Ok(Locked::Blocked) => (State::First { edit }, Progress::Blocked),
+        Ok(Locked::Unlocked) => unreachable!(),
+        Err(error) => (State::Gone, Progress::Ended(Err(as_update_error(error)))),
     }
 }
 
@@ -134,7 +133,8 @@ fn initialise<P: Parts>(
     requires node { is_among origin.call.node (shelf_seen shelf.old).store.nodes ≡ true }
     requires ready { Ready P.C.Codec P.T.Transform P.F.Folder origin (init_seen (at.Update edit) init) (shelf_seen shelf.old) }
     requires lives { is_dead origin.call.node (shelf_seen shelf.old).list ≡ false }
-    ensures steps { Steps P.C.Codec P.T.Transform P.F.Folder origin (init_seen (at.Update edit) init) (shelf_seen shelf.old) result.1 (state_seen result.0) (shelf_seen shelf.new) }
+    ensures steps { Steps P.C.Codec P.T.Transform P.F.Folder origin (init_seen (at.Update edit) init) (shelf_seen shelf.old) (replied result.1) (state_seen result.0) (shelf_seen shelf.new) }
+    ensures unpublished { kept_in result.0 ≡ None }
     ensures raises { raises_of (shelf_seen shelf.new).list ≡ raises_of (shelf_seen shelf.old).list }
 {
     match init.step(origin, alloc, shelf) {
@@ -153,16 +153,18 @@ fn read<P: Parts>(
 ) -> (State<P>, Progress<Result<u64, UpdateError>>)
     requires ready { Ready P.C.Codec P.T.Transform P.F.Folder origin (at.Reading at.Serve (at.Update edit)) (shelf_seen shelf.old) }
     requires lives { is_dead origin.call.node (shelf_seen shelf.old).list ≡ false }
-    ensures steps { Steps P.C.Codec P.T.Transform P.F.Folder origin (at.Reading at.Serve (at.Update edit)) (shelf_seen shelf.old) result.1 (state_seen result.0) (shelf_seen shelf.new) }
+    ensures steps { Steps P.C.Codec P.T.Transform P.F.Folder origin (at.Reading at.Serve (at.Update edit)) (shelf_seen shelf.old) (replied result.1) (state_seen result.0) (shelf_seen shelf.new) }
+    ensures unpublished { kept_in result.0 ≡ None }
     ensures raises { raises_of (shelf_seen shelf.new).list ≡ raises_of (shelf_seen shelf.old).list }
 {
-    let given = match read_held(origin, alloc, shelf) {
+    let given = match read_main(origin, alloc, shelf) {
         Ok(given) => given,
         Err(error) => return (State::Gone, Progress::Ended(Err(as_update_error(error)))),
     };
     match apply(alloc, shelf, &given, &edit) {
-        Ok(Some(plan)) => {
-            let change = Kind::Edit(edit);
+        Ok(Some(Made { plan, value })) => {
+            let kind = Kind::Edit(edit);
+            let change = Change { kind, value };
             let write = WriteCall::Raise { plan, change };
             (State::Write { write }, Progress::Moved)
         }
@@ -185,13 +187,17 @@ fn write_on<P: Parts, W: Word>(
     requires number { W.number word.old ≡ raises_of (shelf_seen shelf.old).list }
     requires ready { Ready P.C.Codec P.T.Transform P.F.Folder origin (write_seen write) (shelf_seen shelf.old) }
     requires lives { is_dead origin.call.node (shelf_seen shelf.old).list ≡ false }
-    ensures steps { Steps P.C.Codec P.T.Transform P.F.Folder origin (write_seen write) (shelf_seen shelf.old) result.1 (state_seen result.0) (shelf_seen shelf.new) }
+    ensures steps { Steps P.C.Codec P.T.Transform P.F.Folder origin (write_seen write) (shelf_seen shelf.old) (replied result.1) (state_seen result.0) (shelf_seen shelf.new) }
+    ensures published { kept_in result.0 ≡ published_by (write_seen write) (replied result.1) (world_seen P.F.Folder (shelf_seen shelf.new)) }
     ensures number { W.number word.new ≡ raises_of (shelf_seen shelf.new).list }
     ensures made { W.made word.new ≡ W.made word.old }
 {
     match write.step(origin, shelf, word) {
         Written::Moved(write) => (State::Write { write }, Progress::Moved),
-        Written::Changed { at } => (State::SyncChanged { at }, Progress::Moved),
+        Written::Changed { at, kept } => {
+            let kept = Some(kept);
+            (State::SyncChanged { at, kept }, Progress::Moved)
+        }
         Written::Faulted { at } => {
             let fault = UpdateError::StorageFault { at };
             (State::Gone, Progress::Ended(Err(fault)))
@@ -207,7 +213,8 @@ fn sync_changed<P: Parts>(
 ) -> (State<P>, Progress<Result<u64, UpdateError>>)
     requires ready { Ready P.C.Codec P.T.Transform P.F.Folder origin (at.SyncingFolder (at.Changed place)) (shelf_seen shelf.old) }
     requires lives { is_dead origin.call.node (shelf_seen shelf.old).list ≡ false }
-    ensures steps { Steps P.C.Codec P.T.Transform P.F.Folder origin (at.SyncingFolder (at.Changed place)) (shelf_seen shelf.old) result.1 (state_seen result.0) (shelf_seen shelf.new) }
+    ensures steps { Steps P.C.Codec P.T.Transform P.F.Folder origin (at.SyncingFolder (at.Changed place)) (shelf_seen shelf.old) (replied result.1) (state_seen result.0) (shelf_seen shelf.new) }
+    ensures unpublished { kept_in result.0 ≡ None }
     ensures raises { raises_of (shelf_seen shelf.new).list ≡ raises_of (shelf_seen shelf.old).list }
 {
     match shelf.sync_folder(origin.call, None) {
@@ -230,7 +237,8 @@ fn sync_kept<P: Parts>(
 ) -> (State<P>, Progress<Result<u64, UpdateError>>)
     requires ready { Ready P.C.Codec P.T.Transform P.F.Folder origin (at.SyncingFolder (at.Kept edit)) (shelf_seen shelf.old) }
     requires lives { is_dead origin.call.node (shelf_seen shelf.old).list ≡ false }
-    ensures steps { Steps P.C.Codec P.T.Transform P.F.Folder origin (at.SyncingFolder (at.Kept edit)) (shelf_seen shelf.old) result.1 (state_seen result.0) (shelf_seen shelf.new) }
+    ensures steps { Steps P.C.Codec P.T.Transform P.F.Folder origin (at.SyncingFolder (at.Kept edit)) (shelf_seen shelf.old) (replied result.1) (state_seen result.0) (shelf_seen shelf.new) }
+    ensures unpublished { kept_in result.0 ≡ None }
     ensures raises { raises_of (shelf_seen shelf.new).list ≡ raises_of (shelf_seen shelf.old).list }
 {
     match shelf.sync_folder(origin.call, Some(edit)) {

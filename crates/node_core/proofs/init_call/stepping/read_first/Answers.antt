@@ -7,8 +7,8 @@ use Rattle.node_core.proofs.EquippedLemmas.{room_left}
 use Rattle.node_core.proofs.RowLemmas.{goes_on}
 use Rattle.node_core.proofs.init_call.stepping.read_first.Goals as goal
 
-pub read_held-requires-clause-lawful : goal.read_held-requires-clause-lawful
-read_held-requires-clause-lawful g c = λ told. fault_fits _ _ _ _ (early_goes_on _ _ c.requires.ready.early c.requires.lives c.requires.ready.numbers)
+pub read_main-requires-clause-lawful : goal.read_main-requires-clause-lawful
+read_main-requires-clause-lawful g c = λ told. fault_fits _ _ _ _ (early_goes_on _ _ c.requires.ready.early c.requires.lives c.requires.ready.numbers)
 
 pub returns-in-Ok-clause-steps : goal.returns-in-Ok-clause-steps
 returns-in-Ok-clause-steps g c =

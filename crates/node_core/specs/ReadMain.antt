@@ -1,5 +1,5 @@
--- What a read of main by the lock's owner gives.
-use Rattle.std.specs.Prelude.{◌≡◌, [], IsTrue, Err, false}
+-- What a read of main gives, with the lock or without.
+use Rattle.std.specs.Prelude.{◌≡◌, [], IsTrue, false}
 use Rattle.store_traits.specs.declared.codec.Codec as codec_trait
 use Rattle.store_traits.specs.declared.given.Given.{Given}
 use Rattle.store_traits.specs.declared.read_error.ReadError.{ReadError}
@@ -14,7 +14,7 @@ use Rattle.shelf.specs.Legal.{value_at}
 use Rattle.shelf.specs.ShelfSeen.{ShelfSeen}
 use Rattle.shelf.specs.ShelfTurns.{Adds}
 use Rattle.step_table.specs.declared.progress.Progress.TheVariants.{Ended}
-use Rattle.step_table.specs.Calls.{Ask, Gone, Purpose, Reading}
+use Rattle.step_table.specs.Calls.{Ask, Failed, Gone, Purpose, Read, Reading, Reply, initialises}
 use Rattle.node_core.specs.declared.origin.Origin.{Origin}
 use Rattle.node_core.specs.Ready.{rules_seen}
 use Rattle.node_core.specs.Steps.{Steps, as_update}
@@ -32,4 +32,8 @@ module _ {C F V T : Type 0} (c : codec_trait.Ghosts C V) (t : transform_trait.Gh
 
   -- the call has ended for this reason, whatever it reads main for
   abbrev pub ReadFails : Origin → ReadError → ShelfSeen C F V T → ShelfSeen C F V T → Type 0
-  ReadFails origin error old new = (purpose : Purpose) → (ask : Ask T) → Steps c t f origin (Reading purpose ask) old (Ended (Err (as_update error))) Gone new
+  ReadFails origin error old new = (purpose : Purpose) → (ask : Ask T) → Steps c t f origin (Reading purpose ask) old (Ended (Failed (as_update error))) Gone new
+
+  -- the call of a read has ended with this answer, and owns nothing, whether it read under the lock or without
+  abbrev pub EndsRead : Origin → Reply V → ShelfSeen C F V T → ShelfSeen C F V T → Type 0
+  EndsRead origin reply old new = (purpose : Purpose) → initialises purpose ≡ false → Steps c t f origin (Reading purpose Read) old (Ended reply) Gone new
