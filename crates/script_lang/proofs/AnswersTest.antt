@@ -11,7 +11,7 @@ use Rattle.prefs_text.specs.declared.seen.AnswerLineSeen.{AnswerLineSeen}
 use Rattle.shelf.specs.Decided.{Decided}
 use Rattle.shelf.proofs.ListTests.{each, named}
 use Rattle.shelf.proofs.Tests.{both, either, if_so, like, no, one_call, same_list, sure, yes}
-use Rattle.script_lang.specs.declared.script.Script.{Script}
+use Rattle.script_lang.specs.declared.plan.script.Script.{Script}
 use Rattle.script_lang.specs.AnswerForms.{answers, answers_update, is_cut}
 use Rattle.script_lang.specs.Asked.{is_actor}
 use Rattle.script_lang.specs.Chronicle.{Chapter}

@@ -6,8 +6,8 @@ use Rattle.prefs_edit.specs.declared.edit_step.EditStep.{EditStep}
 use Rattle.shelf.specs.Decided.{Decided}
 use Rattle.shelf.proofs.ListTests.{Found, found}
 use Rattle.shelf.proofs.Tests.{both, like, none, one_call}
-use Rattle.script_lang.specs.declared.run_line.Act.{Act}
-use Rattle.script_lang.specs.declared.run_line.Act.TheVariants as act
+use Rattle.script_lang.specs.declared.plan.run_line.Act.{Act}
+use Rattle.script_lang.specs.declared.plan.run_line.Act.TheVariants as act
 use Rattle.script_lang.specs.Asked.{Asked}
 use Rattle.script_lang.specs.Chronicle.{Chapter}
 use Rattle.script_lang.specs.GoodAnswers.{IsAsked}

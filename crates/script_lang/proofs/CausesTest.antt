@@ -18,8 +18,8 @@ use Rattle.shelf.specs.Entries.{is_update}
 use Rattle.shelf.proofs.CauseTests.{dead, read_cause, update_cause}
 use Rattle.shelf.proofs.ListTests.{each, found, split}
 use Rattle.shelf.proofs.Tests.{at_most, both, either, if_so, if_some, like, no, none, one_call, sure, yes}
-use Rattle.script_lang.specs.declared.run_line.Act.{Act}
-use Rattle.script_lang.specs.declared.run_line.Act.TheVariants as act
+use Rattle.script_lang.specs.declared.plan.run_line.Act.{Act}
+use Rattle.script_lang.specs.declared.plan.run_line.Act.TheVariants as act
 use Rattle.script_lang.specs.AnswerForms.{read_error, update_error}
 use Rattle.script_lang.specs.Chronicle.{Basis, Chapter}
 use Rattle.script_lang.specs.GoodAnswers.{IsAsked}

@@ -10,7 +10,7 @@ use Rattle.shelf.proofs.BaseTests.{same_base}
 use Rattle.shelf.proofs.LegalTest.{lawful}
 use Rattle.shelf.proofs.ListTests.{each}
 use Rattle.shelf.proofs.Tests.{at_most, both, less, like, same_bool, same_list, same_number}
-use Rattle.script_lang.specs.declared.script.Script.{Script}
+use Rattle.script_lang.specs.declared.plan.script.Script.{Script}
 use Rattle.script_lang.specs.Chronicle.{Basis, Chapter, IsChronicle, IsLawful}
 use Rattle.script_lang.specs.TruthTests.{ReadingTests}
 use Rattle.script_lang.specs.TranscriptView.{SessionSeen}

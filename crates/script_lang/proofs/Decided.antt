@@ -1,23 +1,24 @@
 -- Where no line is faulty, the bytes are a script.
-use Rattle.std.proofs.Common.{ℕ, ◌≡◌, ◌+◌, ◌<◌, ◌∙◌, List, [], ◌∷◌, ◌++◌, Some, length, ap, sym, refl, subst, inl, inr, append_assoc, append-nil, lit<}
+use Rattle.std.proofs.Common.{ℕ, ◌≡◌, ◌+◌, ◌<◌, ◌∙◌, List, [], ◌∷◌, ◌++◌, Some, length, ap, sym, refl, subst, append_assoc, append-nil, lit<}
 use Rattle.std.specs.Prelude.{Contains, slice_get}
 use Rattle.std.specs.Option.{IsSomeAnd}
 use Rattle.script_words.proofs.OneLine.{words_of}
-use Rattle.script_lang.specs.declared.draft.Draft.{Draft}
-use Rattle.script_lang.specs.declared.line.Line.{Line}
-use Rattle.script_lang.specs.declared.line.Line.TheVariants.{Nothing, File, History, Node, Client, Run}
-use Rattle.script_lang.specs.declared.line_word.LineWord.TheVariants as word
-use Rattle.script_lang.specs.declared.mode.Mode.{Mode}
-use Rattle.script_lang.specs.declared.run_line.Act.TheVariants.{Update, Go}
-use Rattle.script_lang.specs.declared.script.Script.{Script}
-use Rattle.script_lang.specs.declared.script_error.ScriptFault.{ScriptFault}
-use Rattle.script_lang.specs.declared.script_error.ScriptFault.TheVariants.{NotUtf8, LineTooLong, TooManyLines, UnknownWord, BadValue, UnknownName, NameTaken, TooManyNames, WrongPlace, NoMemory}
+use Rattle.script_lang.specs.declared.parsing.draft.Draft.{Draft}
+use Rattle.script_lang.specs.declared.parsing.line.Line.{Line}
+use Rattle.script_lang.specs.declared.parsing.line.Line.TheVariants.{Nothing, File, History, Node, Client, Run}
+use Rattle.script_lang.specs.declared.parsing.line_word.LineWord.TheVariants as word
+use Rattle.script_lang.specs.declared.plan.mode.Mode.{Mode}
+use Rattle.script_lang.specs.declared.plan.run_line.Act.TheVariants.{Go}
+use Rattle.script_lang.specs.declared.plan.script.Script.{Script}
+use Rattle.script_lang.specs.declared.parsing.script_error.ScriptFault.{ScriptFault}
+use Rattle.script_lang.specs.declared.parsing.script_error.ScriptFault.TheVariants.{NotUtf8, LineTooLong, TooManyLines, UnknownWord, BadValue, UnknownName, NameTaken, TooManyNames, WrongPlace, NoMemory}
 use Rattle.script_lang.specs.Draft.{draft_of}
 use Rattle.script_lang.specs.Faults.{Breaks, IsLeast, RowBreaks, fault_number}
 use Rattle.script_lang.specs.Lines.{lines_of}
 use Rattle.script_lang.specs.Meaning.{AllSay, Faulty, Means, Says, script_of}
 use Rattle.script_lang.specs.Rows.{Row, keyword, call, HasRow, IsRow, IsSkipped}
 use Rattle.script_lang.specs.Spelling.{LineSpells, Spells}
+use Rattle.script_lang.proofs.CallLemmas.{spells_act}
 use Rattle.script_lang.proofs.LeastFault.{NoneBelow, least_at, none_below_one, passed}
 use Rattle.script_lang.proofs.NameLemmas.{slice_get-from_Contains}
 use Rattle.script_lang.proofs.ReadSoFar.{length_said, say_more}
@@ -32,16 +33,11 @@ module _ (draft : Draft) where
 
   call_spells : (first : List ℕ) (behind : List (List ℕ)) → NothingSpelled (call first behind) → ¬ ((fault : ScriptFault) → ¬ RowBreaks draft (call first behind) fault)
   unfolding NothingSpelled
-  call_spells first [] nothing kept = kept UnknownWord (inr tt)
-  call_spells first (word ∷ words) nothing kept =
-      kept UnknownWord (inr (inl (λ is.
-      kept BadValue (
-        is,
-        λ edit is_edit.
-            kept UnknownName (no_clients draft.clients first (λ place at.
-            nothing (Run (record { client = record { 0 = place }; act = Update edit }))
-            (record { name = first; words = words; is = ap (λ (w : List ℕ). call first (w ∷ words)) is; follow = is_edit; declared = at }))),
-      ))))
+  call_spells first behind nothing kept =
+      kept BadValue (λ act are.
+      kept UnknownName (no_clients draft.clients first (λ place at.
+      nothing (Run (record { client = record { 0 = place }; act = act }))
+      (spells_act draft (call first behind) (record { 0 = place }) act (record { behind = behind; name = first; is = refl; follow = are; declared = at })))))
 
   row_spells : (row : Row) → NothingSpelled row → ¬ ((fault : ScriptFault) → ¬ RowBreaks draft row fault)
   unfolding NothingSpelled

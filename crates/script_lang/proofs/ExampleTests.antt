@@ -1,8 +1,8 @@
 -- A transcript of the examples is judged by computing.
 use Rattle.std.proofs.Common.{◌≡◌, true, false}
 use Rattle.shelf.proofs.Tests.{fails, holds}
-use Rattle.script_lang.specs.declared.script.Script.{Script}
-use Rattle.script_lang.specs.declared.transcript.Transcript.{Transcript}
+use Rattle.script_lang.specs.declared.plan.script.Script.{Script}
+use Rattle.script_lang.specs.declared.transcripts.transcript.Transcript.{Transcript}
 use Rattle.script_lang.specs.Good.{Good, Scripted}
 use Rattle.script_lang.specs.Rules.{Breaks, Rule}
 use Rattle.script_lang.specs.TruthExamples.{basis}

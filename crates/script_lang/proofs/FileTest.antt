@@ -7,8 +7,8 @@ use Rattle.std.proofs.lemmas.Slice.Eq.{bytes_eq-Decides}
 use Rattle.shelf.specs.Decided.{Decided}
 use Rattle.shelf.specs.Images.{main_at}
 use Rattle.shelf.proofs.Bools.{never}
-use Rattle.script_lang.specs.declared.file_seen.FileSeen.{FileSeen}
-use Rattle.script_lang.specs.declared.file_seen.FileSeen.TheVariants.{Absent, Bytes, TooLong}
+use Rattle.script_lang.specs.declared.transcripts.file_seen.FileSeen.{FileSeen}
+use Rattle.script_lang.specs.declared.transcripts.file_seen.FileSeen.TheVariants.{Absent, Bytes, TooLong}
 use Rattle.script_lang.specs.Chronicle.{Basis, Chapter}
 use Rattle.script_lang.specs.Good.{TellsFile, file_seen}
 

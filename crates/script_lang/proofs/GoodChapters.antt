@@ -4,9 +4,9 @@ use Rattle.std.specs.List.{filter}
 use Rattle.store_traits.specs.declared.ids.ClientId.{ClientId}
 use Rattle.shelf.specs.Each.{Each}
 use Rattle.shelf.proofs.EachLemmas.{each_walked}
-use Rattle.script_lang.specs.declared.script.Script.{Script}
-use Rattle.script_lang.specs.declared.session_plan.SessionPlan.{SessionPlan}
-use Rattle.script_lang.specs.declared.transcript.Transcript.{Transcript}
+use Rattle.script_lang.specs.declared.plan.script.Script.{Script}
+use Rattle.script_lang.specs.declared.plan.session_plan.SessionPlan.{SessionPlan}
+use Rattle.script_lang.specs.declared.transcripts.transcript.Transcript.{Transcript}
 use Rattle.script_lang.specs.Asked.{is_actor}
 use Rattle.script_lang.specs.Chronicle.{Basis, Chapter, IsLawful, chapter_of, chronicle, first_beginning}
 use Rattle.script_lang.specs.Good.{Good, KeepsPlans, KeepsRules, Scripted, TellsFile, chapters_of}

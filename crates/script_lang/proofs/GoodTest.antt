@@ -7,8 +7,8 @@ use Rattle.prefs_text.specs.declared.seen.AnswerLineSeen.{AnswerLineSeen}
 use Rattle.shelf.specs.Decided.{Decided}
 use Rattle.shelf.proofs.ListTests.{each}
 use Rattle.shelf.proofs.Tests.{both, if_some, less, like, one_node, same_bool, same_list}
-use Rattle.script_lang.specs.declared.script.Script.{Script}
-use Rattle.script_lang.specs.declared.transcript.Transcript.{Transcript}
+use Rattle.script_lang.specs.declared.plan.script.Script.{Script}
+use Rattle.script_lang.specs.declared.transcripts.transcript.Transcript.{Transcript}
 use Rattle.script_lang.specs.Asked.{home_of, is_actor}
 use Rattle.script_lang.specs.Chronicle.{Basis, Chapter}
 use Rattle.script_lang.specs.Good.{Good, IsGood, KeepsPlans, KeepsRules, Scripted, Setting, TellsFile, chapters_of}

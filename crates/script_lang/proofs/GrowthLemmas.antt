@@ -4,11 +4,11 @@ use Rattle.std.specs.Prelude.{slice_get, IsSome}
 use Rattle.std.specs.List.{filter_map}
 use Rattle.std.proofs.lemmas.Bool.{cases_lt}
 use Rattle.std.proofs.lemmas.List.Elements.{filter_map-append}
-use Rattle.script_lang.specs.declared.draft.Draft.{Draft}
-use Rattle.script_lang.specs.declared.line.Line.{Line}
-use Rattle.script_lang.specs.declared.line.Line.TheVariants.{Nothing, File, History, Node, Client, Run}
-use Rattle.script_lang.specs.declared.mode.Mode.{Mode}
-use Rattle.script_lang.specs.declared.script_error.ScriptFault.TheVariants.{TooManyNames, WrongPlace}
+use Rattle.script_lang.specs.declared.parsing.draft.Draft.{Draft}
+use Rattle.script_lang.specs.declared.parsing.line.Line.{Line}
+use Rattle.script_lang.specs.declared.parsing.line.Line.TheVariants.{Nothing, File, History, Node, Client, Run}
+use Rattle.script_lang.specs.declared.plan.mode.Mode.{Mode}
+use Rattle.script_lang.specs.declared.parsing.script_error.ScriptFault.TheVariants.{TooManyNames, WrongPlace}
 use Rattle.script_lang.specs.Draft.{draft_of, node_of, client_of, home_of, file_of, entries_of, run_of}
 use Rattle.script_lang.specs.Faults.{RowBreaks}
 use Rattle.script_lang.specs.Growth.{HasPlace, draft_with}

@@ -11,7 +11,7 @@ use Rattle.shelf.specs.Decided.{Decided}
 use Rattle.shelf.proofs.Bools.{never}
 use Rattle.shelf.proofs.ListTests.{Found, each, found, named, names}
 use Rattle.shelf.proofs.Tests.{both, if_so, if_some, is_none, less, like, one_call, one_client, one_node, same_list, same_number, same_option, sure, yes}
-use Rattle.script_lang.specs.declared.script.Script.{Script}
+use Rattle.script_lang.specs.declared.plan.script.Script.{Script}
 use Rattle.script_lang.specs.Asked.{is_actor}
 use Rattle.script_lang.specs.Chronicle.{Chapter}
 use Rattle.script_lang.specs.GoodAnswers.{is_answer_of}

@@ -12,17 +12,17 @@ use Rattle.prefs_text.specs.declared.names.Names.{Names}
 use Rattle.store_traits.specs.declared.ids.ClientId.{ClientId}
 use Rattle.store_traits.specs.declared.ids.NodeId.{NodeId}
 use Rattle.script_words.specs.Names.{IsName, reserved}
-use Rattle.script_lang.specs.declared.draft.Draft.{Draft}
-use Rattle.script_lang.specs.declared.line.Line.{Line}
-use Rattle.script_lang.specs.declared.line.Line.TheVariants.{Nothing, File, History, Node, Client, Run}
-use Rattle.script_lang.specs.declared.line_word.LineWord.TheVariants as word
-use Rattle.script_lang.specs.declared.mode.Mode.{Mode}
-use Rattle.script_lang.specs.declared.run_line.Act.{Act}
-use Rattle.script_lang.specs.declared.run_line.Act.TheVariants.{Update, Go, Restart}
-use Rattle.script_lang.specs.declared.run_line.RunLine.{RunLine}
-use Rattle.script_lang.specs.declared.script.Script.{Script}
-use Rattle.script_lang.specs.declared.script_error.ScriptFault.{ScriptFault}
-use Rattle.script_lang.specs.declared.script_error.ScriptFault.TheVariants.{NameTaken, TooManyLines}
+use Rattle.script_lang.specs.declared.parsing.draft.Draft.{Draft}
+use Rattle.script_lang.specs.declared.parsing.line.Line.{Line}
+use Rattle.script_lang.specs.declared.parsing.line.Line.TheVariants.{Nothing, File, History, Node, Client, Run}
+use Rattle.script_lang.specs.declared.parsing.line_word.LineWord.TheVariants as word
+use Rattle.script_lang.specs.declared.plan.mode.Mode.{Mode}
+use Rattle.script_lang.specs.declared.plan.run_line.Act.{Act}
+use Rattle.script_lang.specs.declared.plan.run_line.Act.TheVariants.{Update, Read, Go, Restart}
+use Rattle.script_lang.specs.declared.plan.run_line.RunLine.{RunLine}
+use Rattle.script_lang.specs.declared.plan.script.Script.{Script}
+use Rattle.script_lang.specs.declared.parsing.script_error.ScriptFault.{ScriptFault}
+use Rattle.script_lang.specs.declared.parsing.script_error.ScriptFault.TheVariants.{NameTaken, TooManyLines}
 use Rattle.script_lang.specs.Draft.{draft_of, run_of}
 use Rattle.script_lang.specs.Faults.{IsTaken, RowBreaks, SomeRowBreaks}
 use Rattle.script_lang.specs.Growth.{draft_with}
@@ -130,9 +130,10 @@ runs_of_more_names few many lines nodes clients =
     All-weaker (KeepsRun few) (KeepsRun many) (λ line kept. record { declared = omega (arith, clients, kept.declared); act = act_of_more_nodes few.nodes many.nodes nodes line.act kept.act }) lines
 
 act_keeps : (draft : Draft) (row : Row) (client : ClientId) (act : Act) → SpellsAct draft row client act → KeepsRun (names_of draft) (record { client = client; act = act }) × IsBuiltAct act
-act_keeps draft row client (Update edit) spelled = (record { declared = slice_get_within draft.clients client.0 spelled.name spelled.declared; act = spelled.follow.is_edit }, tt)
+act_keeps draft row client (Update edit) spelled = (record { declared = slice_get_within draft.clients client.0 spelled.name spelled.declared; act = spelled.follow.follow.is_edit }, tt)
+act_keeps draft row client Read spelled = (record { declared = slice_get_within draft.clients client.0 spelled.name spelled.declared; act = tt }, tt)
 act_keeps draft row client (Go steps) spelled = (record { declared = slice_get_within draft.clients client.0 spelled.name spelled.declared; act = spelled.follow.is_number.high }, tt)
-act_keeps draft row client other spelled = absurd spelled
+act_keeps draft row client other spelled = absurd spelled.follow
 
 few_more : (n number m : ℕ) → n < number → ¬ (100000 < number) → m ≡ n + 1 → m ≤ 100000
 few_more n number m less few is = ⊎_elim (λ more. absurd (few (omega arith))) (λ within. within) (cases_lt 100000 m)

@@ -1,4 +1,5 @@
 pub mod AnswersTest
+pub mod CallLemmas
 pub mod CallTests
 pub mod CausesTest
 pub mod ChronicleTest

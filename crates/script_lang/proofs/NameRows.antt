@@ -3,10 +3,10 @@ use Rattle.std.proofs.Common.{ℕ, ◌≡◌, ◌≤◌, List, [], ◌∷◌, So
 use Rattle.std.specs.Prelude.{codes, slice_get, Contains}
 use Rattle.store_traits.specs.declared.ids.NodeId.{NodeId}
 use Rattle.script_words.specs.Names.{IsName}
-use Rattle.script_lang.specs.declared.draft.Draft.{Draft}
-use Rattle.script_lang.specs.declared.line.Line.TheVariants as said
-use Rattle.script_lang.specs.declared.line_word.LineWord.TheVariants.{Node, Client}
-use Rattle.script_lang.specs.declared.script_error.ScriptFault.TheVariants.{UnknownName, NameTaken, TooManyNames, WrongPlace}
+use Rattle.script_lang.specs.declared.parsing.draft.Draft.{Draft}
+use Rattle.script_lang.specs.declared.parsing.line.Line.TheVariants as said
+use Rattle.script_lang.specs.declared.parsing.line_word.LineWord.TheVariants.{Node, Client}
+use Rattle.script_lang.specs.declared.parsing.script_error.ScriptFault.TheVariants.{UnknownName, NameTaken, TooManyNames, WrongPlace}
 use Rattle.script_lang.specs.Faults.{IsTaken, FollowsOther, HasBadValue, HasUnknownName}
 use Rattle.script_lang.specs.Reading.{RowSays, IsRowFault}
 use Rattle.script_lang.specs.Rows.{keyword}

@@ -3,21 +3,20 @@ use Rattle.std.proofs.Common.{ℕ, ◌≡◌, ◌<◌, ◌≤◌, ◌∙◌, ◌
 use Rattle.std.specs.Prelude.{codes, slice_get}
 use Rattle.std.proofs.lemmas.Fmt.{decimal_injective}
 use Rattle.folder_disk.specs.declared.main_read.MainRead.{MainRead}
-use Rattle.prefs_edit.specs.declared.edit_step.EditStep.{EditStep}
 use Rattle.store_traits.specs.declared.ids.ClientId.{ClientId}
 use Rattle.store_traits.specs.declared.ids.NodeId.{NodeId}
-use Rattle.script_words.specs.EditWords.{AreEditWords}
 use Rattle.script_words.specs.Numbers.{IsNumberWithin}
-use Rattle.script_words.proofs.OneEdit.{one_edit}
-use Rattle.script_lang.specs.declared.draft.Draft.{Draft}
-use Rattle.script_lang.specs.declared.line.Line.{Line}
-use Rattle.script_lang.specs.declared.line.Line.TheVariants.{Nothing, File, History, Node, Client, Run}
-use Rattle.script_lang.specs.declared.line_word.LineWord.TheVariants as word
-use Rattle.script_lang.specs.declared.run_line.Act.{Act}
-use Rattle.script_lang.specs.declared.run_line.Act.TheVariants.{Update, Go, Read, Flow, Post, Restart}
+use Rattle.script_lang.specs.declared.parsing.draft.Draft.{Draft}
+use Rattle.script_lang.specs.declared.parsing.line.Line.{Line}
+use Rattle.script_lang.specs.declared.parsing.line.Line.TheVariants.{Nothing, File, History, Node, Client, Run}
+use Rattle.script_lang.specs.declared.parsing.line_word.LineWord.TheVariants as word
+use Rattle.script_lang.specs.declared.plan.run_line.Act.{Act}
+use Rattle.script_lang.specs.declared.plan.run_line.Act.TheVariants.{Go}
+use Rattle.script_lang.specs.CallWords.{AreCallWords}
 use Rattle.script_lang.specs.Keeps.{StandOnce}
 use Rattle.script_lang.specs.Rows.{Row, keyword, call, IsSkipped, IsFileWord, IsFileRow, IsHistoryRow, IsNodeRow, IsClientRow, IsGoRow}
-use Rattle.script_lang.specs.Spelling.{LineSpells, SomeRowSpells, Spells, SpellsAct}
+use Rattle.script_lang.specs.Spelling.{LineSpells, SomeRowSpells, Spells, SpellsAct, SpellsCall}
+use Rattle.script_lang.proofs.CallLemmas.{one_call}
 use Rattle.script_lang.proofs.OneFile.{one_file}
 use Rattle.script_lang.proofs.OneRow.{first_same, one_row}
 
@@ -62,12 +61,10 @@ record OfGo (draft : Draft) (behind : List (List ℕ)) (said : Line) : Type 0 wh
   declared : slice_get draft.clients client.0 ≡ Some name
 
 record OfCall (draft : Draft) (first : List ℕ) (behind : List (List ℕ)) (said : Line) : Type 0 where
-  words : List (List ℕ)
   client : ClientId
-  edit : List EditStep
-  is : said ≡ Run (record { client = client; act = Update edit })
-  row : behind ≡ codes "update" ∷ words
-  follow : AreEditWords words edit
+  act : Act
+  is : said ≡ Run (record { client = client; act = act })
+  follow : AreCallWords behind act
   declared : slice_get draft.clients client.0 ≡ Some first
 
 abbrev OfRow : Draft → Row → Line → Type 0
@@ -79,17 +76,16 @@ OfRow draft (keyword word.Go behind) said = OfGo draft behind said
 OfRow draft (keyword _ behind) said = ⊥
 OfRow draft (call first behind) said = OfCall draft first behind said
 
+call_of_row : (draft : Draft) (row : Row) (client : ClientId) (act : Act) → SpellsCall draft row client act → OfRow draft row (Run (record { client = client; act = act }))
+call_of_row draft row client act spelled =
+    let P : Row → Type 0 = λ r. OfRow draft r (Run (record { client = client; act = act })) in
+    subst P (sym spelled.is) (record { client = client; act = act; is = refl; follow = spelled.follow; declared = spelled.declared })
+
 act_of_row : (draft : Draft) (row : Row) (client : ClientId) (act : Act) → SpellsAct draft row client act → OfRow draft row (Run (record { client = client; act = act }))
-act_of_row draft row client (Update edit) spelled =
-    let P : Row → Type 0 = λ r. OfRow draft r (Run (record { client = client; act = Update edit })) in
-    subst P (sym spelled.is) (record { words = spelled.words; client = client; edit = edit; is = refl; row = refl; follow = spelled.follow; declared = spelled.declared })
 act_of_row draft row client (Go steps) spelled =
     let P : Row → Type 0 = λ r. OfRow draft r (Run (record { client = client; act = Go steps })) in
     subst P (sym spelled.is) (record { name = spelled.name; client = client; steps = steps; is = refl; follow = spelled.follow; declared = spelled.declared })
-act_of_row draft row client Read spelled = absurd spelled
-act_of_row draft row client Flow spelled = absurd spelled
-act_of_row draft row client (Post edit) spelled = absurd spelled
-act_of_row draft row client (Restart node) spelled = absurd spelled
+act_of_row draft row client act spelled = call_of_row draft row client act spelled
 
 of_row : (draft : Draft) (row : Row) (said : Line) → Spells draft row said → OfRow draft row said
 of_row draft row Nothing spelled = absurd spelled
@@ -149,11 +145,9 @@ module _ (draft : Draft) (nodes_once : StandOnce draft.nodes) (clients_once : St
 
   both_calls : (first : List ℕ) (behind : List (List ℕ)) → OfCall draft first behind a → OfCall draft first behind b → a ≡ b
   both_calls first behind x y =
-      let words : x.words ≡ y.words = (first_same (codes "update") (codes "update") x.words y.words (sym x.row ∙ y.row)).1 in
       let ids : x.client ≡ y.client = same_client x.client y.client (clients_once x.client.0 y.client.0 first x.declared y.declared) in
-      let P : List (List ℕ) → Type 0 = λ w. AreEditWords w x.edit in
-      let edits : x.edit ≡ y.edit = one_edit y.words x.edit y.edit (subst P words x.follow) y.follow in
-      x.is ∙ ap (λ (c : ClientId). Run (record { client = c; act = Update x.edit })) ids ∙ ap (λ (e : List EditStep). Run (record { client = y.client; act = Update e })) edits ∙ sym y.is
+      let acts : x.act ≡ y.act = one_call behind x.act y.act x.follow y.follow in
+      x.is ∙ ap (λ (c : ClientId). Run (record { client = c; act = x.act })) ids ∙ ap (λ (a : Act). Run (record { client = y.client; act = a })) acts ∙ sym y.is
 
   both_of_row : (row : Row) → OfRow draft row a → OfRow draft row b → a ≡ b
   both_of_row (keyword word.File behind) x y = both_files behind x y

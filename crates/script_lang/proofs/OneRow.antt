@@ -2,8 +2,8 @@
 use Rattle.std.proofs.Common.{ℕ, ◌≡◌, ◌==◌, ◌+◌, ◌*◌, ◌∙◌, List, ◌∷◌, length, cond, ap, sym, refl, subst}
 use Rattle.std.specs.Prelude.{slice_index}
 use Rattle.script_words.proofs.OneLine.{one_list}
-use Rattle.script_lang.specs.declared.line_word.LineWord.{LineWord}
-use Rattle.script_lang.specs.declared.line_word.LineWord.TheVariants.{File, History, Handler, Legacy, Migrate, Node, Client, Fault, Fuse, Die, Go, Stop}
+use Rattle.script_lang.specs.declared.parsing.line_word.LineWord.{LineWord}
+use Rattle.script_lang.specs.declared.parsing.line_word.LineWord.TheVariants.{File, History, Handler, Legacy, Migrate, Node, Client, Fault, Fuse, Die, Go, Stop}
 use Rattle.script_lang.specs.LineWord.{line_word}
 use Rattle.script_lang.specs.Rows.{Row, keyword, call, HasRow, IsRow}
 

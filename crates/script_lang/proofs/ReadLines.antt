@@ -1,11 +1,11 @@
 -- From a line's words to the line.
 use Rattle.std.proofs.Common.{ℕ, ◌≡◌, ◌≤◌, List, [], ◌∷◌, ◌++◌, length, Bor, Result, Ok, Err, subst, inl, inr, ⊎_elim, arith}
 use Rattle.script_words.specs.Words.{AreWords, texts_at}
-use Rattle.script_lang.specs.declared.draft.Draft.{Draft}
-use Rattle.script_lang.specs.declared.line.Line.{Line}
-use Rattle.script_lang.specs.declared.line.Line.TheVariants.{Nothing}
-use Rattle.script_lang.specs.declared.script_error.ScriptFault.{ScriptFault}
-use Rattle.script_lang.specs.declared.script_error.ScriptFault.TheVariants.{NotUtf8, LineTooLong, TooManyLines, UnknownWord, BadValue, UnknownName, NameTaken, TooManyNames, WrongPlace, NoMemory}
+use Rattle.script_lang.specs.declared.parsing.draft.Draft.{Draft}
+use Rattle.script_lang.specs.declared.parsing.line.Line.{Line}
+use Rattle.script_lang.specs.declared.parsing.line.Line.TheVariants.{Nothing}
+use Rattle.script_lang.specs.declared.parsing.script_error.ScriptFault.{ScriptFault}
+use Rattle.script_lang.specs.declared.parsing.script_error.ScriptFault.TheVariants.{NotUtf8, LineTooLong, TooManyLines, UnknownWord, BadValue, UnknownName, NameTaken, TooManyNames, WrongPlace, NoMemory}
 use Rattle.script_lang.specs.Faults.{Breaks, IsLeast, RowBreaks}
 use Rattle.script_lang.specs.Meaning.{Says}
 use Rattle.script_lang.specs.Reading.{PassesTests, ReadsLine, ReadsRow, ReadsWords}

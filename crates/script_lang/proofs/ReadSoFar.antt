@@ -1,10 +1,10 @@
 -- What is known once some lines of a script are read.
 use Rattle.std.proofs.Common.{ℕ, suc, ◌≡◌, ◌+◌, ◌<◌, ◌≤◌, ◌∙◌, List, [], ◌∷◌, ◌++◌, length, ap, sym, refl, subst, inl, inr, ⊎_elim, append_assoc, append-nil, length-append, arith}
-use Rattle.script_lang.specs.declared.draft.Draft.{Draft}
-use Rattle.script_lang.specs.declared.line.Line.{Line}
-use Rattle.script_lang.specs.declared.mode.Mode.{Mode}
-use Rattle.script_lang.specs.declared.script.Script.{Script}
-use Rattle.script_lang.specs.declared.script_error.ScriptError.{ScriptError}
+use Rattle.script_lang.specs.declared.parsing.draft.Draft.{Draft}
+use Rattle.script_lang.specs.declared.parsing.line.Line.{Line}
+use Rattle.script_lang.specs.declared.plan.mode.Mode.{Mode}
+use Rattle.script_lang.specs.declared.plan.script.Script.{Script}
+use Rattle.script_lang.specs.declared.parsing.script_error.ScriptError.{ScriptError}
 use Rattle.script_lang.specs.Draft.{draft_of}
 use Rattle.script_lang.specs.Faults.{Breaks, IsLeast}
 use Rattle.script_lang.specs.Growth.{draft_with}

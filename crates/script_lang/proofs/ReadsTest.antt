@@ -16,13 +16,13 @@ use Rattle.script_lang.specs.GoodReads.{GivesValue, GivesValues, HasValue}
 use Rattle.script_lang.proofs.EditTests.{one_map}
 
 module _ (b : Basis) (c : Chapter) where
-  abbrev pub has_value : (edition : ℕ) (map : List PrefPair) (front : List PrefEntry) → Decided (HasValue b c edition map front)
+  abbrev pub has_value : (edition : ℕ) (map : List PrefPair) (front : List PrefEntry) → Decided (HasValue b.rules c.store edition map front)
   has_value edition map front =
       like (λ it. record { reached = it.0; value = it.1 }) (λ it. (it.reached, it.value)) (both (same_number (edition_of front) edition) (same_base one_map (value_at b.rules.meanings c.store front) (Held map)))
 
   abbrev pub gives_value : (answer : AnswerSeen) → Decided (GivesValue b c answer)
-  gives_value (Read edition map) = some_front (HasValue b c edition map) (has_value edition map) c.told.entries
-  gives_value (Flow edition map) = some_front (HasValue b c edition map) (has_value edition map) c.told.entries
+  gives_value (Read edition map) = some_front (HasValue b.rules c.store edition map) (has_value edition map) c.told.entries
+  gives_value (Flow edition map) = some_front (HasValue b.rules c.store edition map) (has_value edition map) c.told.entries
   gives_value other = sure tt
 
   abbrev pub gives_values : Decided (GivesValues b c)

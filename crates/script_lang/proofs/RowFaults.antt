@@ -1,9 +1,9 @@
 -- The least rule that the words of a line break, and that they break none.
 use Rattle.std.proofs.Common.{inr}
-use Rattle.script_lang.specs.declared.draft.Draft.{Draft}
-use Rattle.script_lang.specs.declared.line.Line.{Line}
-use Rattle.script_lang.specs.declared.script_error.ScriptFault.{ScriptFault}
-use Rattle.script_lang.specs.declared.script_error.ScriptFault.TheVariants.{UnknownWord, BadValue, UnknownName, NameTaken, TooManyNames, WrongPlace}
+use Rattle.script_lang.specs.declared.parsing.draft.Draft.{Draft}
+use Rattle.script_lang.specs.declared.parsing.line.Line.{Line}
+use Rattle.script_lang.specs.declared.parsing.script_error.ScriptFault.{ScriptFault}
+use Rattle.script_lang.specs.declared.parsing.script_error.ScriptFault.TheVariants.{UnknownWord, BadValue, UnknownName, NameTaken, TooManyNames, WrongPlace}
 use Rattle.script_lang.specs.Faults.{RowBreaks, HasUnknownWord, HasBadValue, HasUnknownName, TakesName, IsOneTooMany, StandsWrong}
 use Rattle.script_lang.specs.Reading.{RowSays, IsRowFault}
 use Rattle.script_lang.specs.Rows.{Row}

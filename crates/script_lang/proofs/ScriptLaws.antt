@@ -1,9 +1,9 @@
 -- Bytes are one script, or have one first faulty line, and never both.
 use Rattle.std.proofs.Common.{ℕ, ◌≡◌, ◌+◌, ◌≤◌, ◌∙◌, List, [], ◌∷◌, ◌++◌, length, ap, sym, refl, subst, append_assoc, append-nil, arith}
-use Rattle.script_lang.specs.declared.line.Line.{Line}
-use Rattle.script_lang.specs.declared.mode.Mode.{Mode}
-use Rattle.script_lang.specs.declared.script.Script.{Script}
-use Rattle.script_lang.specs.declared.script_error.ScriptFault.{ScriptFault}
+use Rattle.script_lang.specs.declared.parsing.line.Line.{Line}
+use Rattle.script_lang.specs.declared.plan.mode.Mode.{Mode}
+use Rattle.script_lang.specs.declared.plan.script.Script.{Script}
+use Rattle.script_lang.specs.declared.parsing.script_error.ScriptFault.{ScriptFault}
 use Rattle.script_lang.specs.Draft.{draft_of}
 use Rattle.script_lang.specs.Faults.{Breaks, IsLeast, fault_number}
 use Rattle.script_lang.specs.Lines.{lines_of}

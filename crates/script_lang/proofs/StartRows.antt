@@ -1,10 +1,10 @@
 -- What the lines on the start say, and which of their rules are broken first.
 use Rattle.std.proofs.Common.{ℕ, ◌≡◌, List, [], ◌∷◌, refl}
 use Rattle.folder_disk.specs.declared.main_read.MainRead.{MainRead}
-use Rattle.script_lang.specs.declared.draft.Draft.{Draft}
-use Rattle.script_lang.specs.declared.line.Line.TheVariants as said
-use Rattle.script_lang.specs.declared.line_word.LineWord.TheVariants.{File, History}
-use Rattle.script_lang.specs.declared.script_error.ScriptFault.TheVariants.{WrongPlace}
+use Rattle.script_lang.specs.declared.parsing.draft.Draft.{Draft}
+use Rattle.script_lang.specs.declared.parsing.line.Line.TheVariants as said
+use Rattle.script_lang.specs.declared.parsing.line_word.LineWord.TheVariants.{File, History}
+use Rattle.script_lang.specs.declared.parsing.script_error.ScriptFault.TheVariants.{WrongPlace}
 use Rattle.script_lang.specs.Faults.{BarsFile, BarsHistory}
 use Rattle.script_lang.specs.Reading.{RowSays, IsRowFault}
 use Rattle.script_lang.specs.Rows.{keyword, IsFileWord, IsFileRow, IsHistoryRow}

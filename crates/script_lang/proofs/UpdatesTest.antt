@@ -16,8 +16,8 @@ use Rattle.shelf.specs.Images.{is_synced}
 use Rattle.shelf.proofs.ListTests.{each}
 use Rattle.shelf.proofs.PlaceTests.{StandsSo, follows_so, stands_so}
 use Rattle.shelf.proofs.Tests.{both, like, no, none, same_number}
-use Rattle.script_lang.specs.declared.run_line.Act.{Act}
-use Rattle.script_lang.specs.declared.run_line.Act.TheVariants as act
+use Rattle.script_lang.specs.declared.plan.run_line.Act.{Act}
+use Rattle.script_lang.specs.declared.plan.run_line.Act.TheVariants as act
 use Rattle.script_lang.specs.Chronicle.{Chapter}
 use Rattle.script_lang.specs.GoodUpdates.{Acknowledges, IsAcknowledged, IsDone, IsRestarted, has_restart, is_restart_of}
 use Rattle.script_lang.proofs.CallTests.{asked, carried}

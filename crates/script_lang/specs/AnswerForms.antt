@@ -6,8 +6,8 @@ use Rattle.store_traits.specs.declared.update_error.UpdateError.{UpdateError}
 use Rattle.store_traits.specs.declared.update_error.UpdateError.TheVariants as update
 use Rattle.prefs_text.specs.declared.seen.AnswerSeen.{AnswerSeen}
 use Rattle.prefs_text.specs.declared.seen.AnswerSeen.TheVariants.{Updated, Read, Flow, Unchanged, Refused, Corrupt, FileTooLong, ValueTooLong, HistoryFull, StorageFault, NotDurable, LegacyFault, Died, Posted, Full, Restarted, NotDead, Cut}
-use Rattle.script_lang.specs.declared.run_line.Act.{Act}
-use Rattle.script_lang.specs.declared.run_line.Act.TheVariants as act
+use Rattle.script_lang.specs.declared.plan.run_line.Act.{Act}
+use Rattle.script_lang.specs.declared.plan.run_line.Act.TheVariants as act
 
 -- the error that a read is answered by
 abbrev pub read_error : AnswerSeen → Option ReadError

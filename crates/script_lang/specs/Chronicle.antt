@@ -15,9 +15,9 @@ use Rattle.shelf.specs.FaultCounts.{count_after}
 use Rattle.shelf.specs.Images.{images}
 use Rattle.shelf.specs.Legal.{Legal}
 use Rattle.shelf.specs.Rules.{Rules}
-use Rattle.script_lang.specs.declared.run_line.RunLine.{RunLine}
-use Rattle.script_lang.specs.declared.script.Script.{Script}
-use Rattle.script_lang.specs.declared.session_plan.SessionPlan.{SessionPlan}
+use Rattle.script_lang.specs.declared.plan.run_line.RunLine.{RunLine}
+use Rattle.script_lang.specs.declared.plan.script.Script.{Script}
+use Rattle.script_lang.specs.declared.plan.session_plan.SessionPlan.{SessionPlan}
 use Rattle.script_lang.specs.Asked.{Asked, asked_by}
 use Rattle.shelf.specs.Each.{Each}
 use Rattle.script_lang.specs.SessionPlans.{StopBetween}

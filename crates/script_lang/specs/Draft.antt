@@ -3,11 +3,11 @@ use Rattle.std.specs.Prelude.{ℕ, List, Option, Some, None, slice_get}
 use Rattle.std.specs.List.{filter_map}
 use Rattle.folder_disk.specs.declared.main_read.MainRead.{MainRead}
 use Rattle.store_traits.specs.declared.ids.NodeId.{NodeId}
-use Rattle.script_lang.specs.declared.draft.Draft.{Draft}
-use Rattle.script_lang.specs.declared.line.Line.{Line}
-use Rattle.script_lang.specs.declared.line.Line.TheVariants.{File, History, Node, Client, Run}
-use Rattle.script_lang.specs.declared.mode.Mode.{Mode}
-use Rattle.script_lang.specs.declared.run_line.RunLine.{RunLine}
+use Rattle.script_lang.specs.declared.parsing.draft.Draft.{Draft}
+use Rattle.script_lang.specs.declared.parsing.line.Line.{Line}
+use Rattle.script_lang.specs.declared.parsing.line.Line.TheVariants.{File, History, Node, Client, Run}
+use Rattle.script_lang.specs.declared.plan.mode.Mode.{Mode}
+use Rattle.script_lang.specs.declared.plan.run_line.RunLine.{RunLine}
 
 abbrev pub node_of : Line → Option (List ℕ)
 node_of (Node name) = Some name

@@ -1,31 +1,21 @@
 -- What a line can break, each rule by itself.
-use Rattle.std.specs.Prelude.{ℕ, ◌≡◌, ◌≢◌, ◌<◌, ◌≤◌, ◌⊎◌, List, [], ◌∷◌, length, codes, Contains, IsSome, slice_get}
+use Rattle.std.specs.Prelude.{ℕ, ◌≡◌, ◌<◌, ◌≤◌, ◌⊎◌, List, length, Contains, IsSome, slice_get}
 use Rattle.std.specs.Option.{IsSomeAnd}
 use Rattle.std.specs.Str.{IsUtf8}
 use Rattle.folder_disk.specs.declared.main_read.MainRead.{MainRead}
-use Rattle.prefs_edit.specs.declared.edit_step.EditStep.{EditStep}
-use Rattle.script_words.specs.EditWords.{AreEditWords, HasUnknown}
 use Rattle.script_words.specs.Names.{IsName, reserved}
-use Rattle.script_lang.specs.declared.draft.Draft.{Draft}
-use Rattle.script_lang.specs.declared.line_word.LineWord.TheVariants.{File, History, Node, Client, Go}
-use Rattle.script_lang.specs.declared.mode.Mode.TheVariants.{Nodes}
-use Rattle.script_lang.specs.declared.script_error.ScriptFault.{ScriptFault}
-use Rattle.script_lang.specs.declared.script_error.ScriptFault.TheVariants as fault
+use Rattle.script_lang.specs.declared.parsing.draft.Draft.{Draft}
+use Rattle.script_lang.specs.declared.parsing.line_word.LineWord.TheVariants.{File, History, Node, Client, Go}
+use Rattle.script_lang.specs.declared.plan.mode.Mode.TheVariants.{Nodes}
+use Rattle.script_lang.specs.declared.parsing.script_error.ScriptFault.{ScriptFault}
+use Rattle.script_lang.specs.declared.parsing.script_error.ScriptFault.TheVariants as fault
+use Rattle.script_lang.specs.CallWords.{AreNoCall, HasUnknownCall}
 use Rattle.script_lang.specs.LineWord.{IsUnbuilt}
 use Rattle.script_lang.specs.Rows.{Row, keyword, call, HasRow, IsSkipped, IsFileRow, IsHistoryRow, IsNodeRow, IsClientRow, IsGoRow}
-
--- no word in the place of a call, or one that is none; or an unknown word in an edit
-abbrev pub HasUnknownCall : List (List ℕ) → Type 0
-HasUnknownCall [] = Unit {0}
-HasUnknownCall (word ∷ edit) = (word ≢ codes "update") ⊎ ((word ≡ codes "update") × HasUnknown edit)
 
 abbrev pub HasUnknownWord : Row → Type 0
 HasUnknownWord (keyword word behind) = IsUnbuilt word
 HasUnknownWord (call first behind) = (¬ IsName first) ⊎ HasUnknownCall behind
-
-abbrev pub HasBadEdit : List (List ℕ) → Type 0
-HasBadEdit [] = ⊥
-HasBadEdit (word ∷ words) = (word ≡ codes "update") × ((edit : List EditStep) → ¬ AreEditWords words edit)
 
 -- the words are not those that such a line has
 abbrev pub HasBadValue : Row → Type 0
@@ -35,7 +25,7 @@ HasBadValue (keyword Node behind) = (name : List ℕ) → ¬ IsNodeRow behind na
 HasBadValue (keyword Client behind) = (name home : List ℕ) → ¬ IsClientRow behind name home
 HasBadValue (keyword Go behind) = (client : List ℕ) (steps : ℕ) → ¬ IsGoRow behind client steps
 HasBadValue (keyword _ behind) = ⊥
-HasBadValue (call first behind) = HasBadEdit behind
+HasBadValue (call first behind) = AreNoCall behind
 
 -- the word in the place of a node or a client, whatever its form, is the name of none
 abbrev pub HasUnknownName : Draft → Row → Type 0

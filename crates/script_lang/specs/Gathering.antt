@@ -1,8 +1,8 @@
 -- Text on its way to a sink: it is gathered first, and written once there is enough.
 use Rattle.std.specs.Prelude.{ℕ, ◌≡◌, ◌++◌, Bool, true, false, List, Result, Ok, Err}
 use Rattle.byte_io.specs.Sink.{GainsPrefix}
-use Rattle.script_lang.specs.declared.write_text_error.WriteTextError.{WriteTextError}
-use Rattle.script_lang.specs.declared.write_text_error.WriteTextError.TheVariants.{WriteFault}
+use Rattle.script_lang.specs.declared.transcripts.write_text_error.WriteTextError.{WriteTextError}
+use Rattle.script_lang.specs.declared.transcripts.write_text_error.WriteTextError.TheVariants.{WriteFault}
 
 -- of what was gathered and the text behind it, a prefix went to the sink and the rest is gathered now
 pub record PassesOn (text held gathered new_held new_gathered : List ℕ) : Type 0 where

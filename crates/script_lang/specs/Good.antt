@@ -4,10 +4,10 @@ use Rattle.std.specs.List.{list_any}
 use Rattle.hist_journal.specs.declared.device.Device.TheVariants.{Folder, Legacy}
 use Rattle.shelf.specs.Entries.{is_death}
 use Rattle.shelf.specs.Images.{main_at}
-use Rattle.script_lang.specs.declared.file_seen.FileSeen.{FileSeen}
-use Rattle.script_lang.specs.declared.file_seen.FileSeen.TheVariants.{Absent, Bytes, TooLong}
-use Rattle.script_lang.specs.declared.script.Script.{Script}
-use Rattle.script_lang.specs.declared.transcript.Transcript.{Transcript}
+use Rattle.script_lang.specs.declared.transcripts.file_seen.FileSeen.{FileSeen}
+use Rattle.script_lang.specs.declared.transcripts.file_seen.FileSeen.TheVariants.{Absent, Bytes, TooLong}
+use Rattle.script_lang.specs.declared.plan.script.Script.{Script}
+use Rattle.script_lang.specs.declared.transcripts.transcript.Transcript.{Transcript}
 use Rattle.shelf.specs.FaultCounts.{count_after}
 use Rattle.script_lang.specs.Chronicle.{Basis, Beginning, Chapter, IsChronicle, chronicle, first_beginning}
 use Rattle.shelf.specs.Each.{Each}

@@ -6,8 +6,8 @@ use Rattle.store_traits.specs.declared.ids.CallId.{CallId}
 use Rattle.hist_journal.specs.Kinds.{is_call}
 use Rattle.prefs_text.specs.declared.seen.AnswerLineSeen.{AnswerLineSeen}
 use Rattle.prefs_text.specs.Callers.{HasCaller}
-use Rattle.script_lang.specs.declared.run_line.Act.{Act}
-use Rattle.script_lang.specs.declared.script.Script.{Script}
+use Rattle.script_lang.specs.declared.plan.run_line.Act.{Act}
+use Rattle.script_lang.specs.declared.plan.script.Script.{Script}
 use Rattle.script_lang.specs.AnswerForms.{answers, answers_update, is_cut}
 use Rattle.script_lang.specs.Asked.{Asked, home_of, is_actor}
 use Rattle.script_lang.specs.Chronicle.{Chapter}

@@ -16,8 +16,8 @@ use Rattle.prefs_text.specs.declared.seen.AnswerSeen.TheVariants.{Updated, NotDu
 use Rattle.shelf.specs.Acknowledged.{Carries}
 use Rattle.shelf.specs.Causes.{HasCause, HasReadCause, IsDead}
 use Rattle.shelf.specs.Entries.{is_update}
-use Rattle.script_lang.specs.declared.run_line.Act.{Act}
-use Rattle.script_lang.specs.declared.run_line.Act.TheVariants as act
+use Rattle.script_lang.specs.declared.plan.run_line.Act.{Act}
+use Rattle.script_lang.specs.declared.plan.run_line.Act.TheVariants as act
 use Rattle.script_lang.specs.AnswerForms.{read_error, update_error}
 use Rattle.script_lang.specs.Chronicle.{Basis, Chapter}
 use Rattle.shelf.specs.Each.{Each}

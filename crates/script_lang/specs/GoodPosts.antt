@@ -6,8 +6,8 @@ use Rattle.store_traits.specs.declared.ids.ClientId.{ClientId}
 use Rattle.prefs_edit.specs.declared.edit_step.EditStep.{EditStep}
 use Rattle.prefs_text.specs.declared.seen.AnswerLineSeen.{AnswerLineSeen}
 use Rattle.prefs_text.specs.declared.seen.AnswerSeen.TheVariants.{Posted}
-use Rattle.script_lang.specs.declared.run_line.Act.TheVariants as act
-use Rattle.script_lang.specs.declared.script.Script.{Script}
+use Rattle.script_lang.specs.declared.plan.run_line.Act.TheVariants as act
+use Rattle.script_lang.specs.declared.plan.script.Script.{Script}
 use Rattle.script_lang.specs.Asked.{is_actor}
 use Rattle.script_lang.specs.Chronicle.{Chapter}
 use Rattle.shelf.specs.Each.{Each}

@@ -14,7 +14,7 @@ use Rattle.hist_journal.specs.declared.seen.KindSeen.TheVariants.{Restart}
 use Rattle.shelf.specs.Acknowledged.{IsUpdated}
 use Rattle.shelf.specs.Entries.{is_own}
 use Rattle.shelf.specs.Places.{StandsAt}
-use Rattle.script_lang.specs.declared.run_line.Act.TheVariants as act
+use Rattle.script_lang.specs.declared.plan.run_line.Act.TheVariants as act
 use Rattle.script_lang.specs.Chronicle.{Chapter}
 use Rattle.shelf.specs.Each.{Each}
 

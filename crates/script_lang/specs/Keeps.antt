@@ -5,11 +5,11 @@ use Rattle.prefs_edit.specs.Edit.{IsEdit}
 use Rattle.prefs_text.specs.declared.names.Names.{Names}
 use Rattle.script_words.specs.Names.{IsName, reserved}
 use Rattle.shelf.specs.declared.store.PlannedDeath.{PlannedDeath}
-use Rattle.script_lang.specs.declared.run_line.Act.{Act}
-use Rattle.script_lang.specs.declared.run_line.Act.TheVariants.{Update, Post, Restart, Go}
-use Rattle.script_lang.specs.declared.run_line.RunLine.{RunLine}
-use Rattle.script_lang.specs.declared.script.Script.{Script}
-use Rattle.script_lang.specs.declared.session_plan.SessionPlan.{SessionPlan}
+use Rattle.script_lang.specs.declared.plan.run_line.Act.{Act}
+use Rattle.script_lang.specs.declared.plan.run_line.Act.TheVariants.{Update, Read, Post, Restart, Go}
+use Rattle.script_lang.specs.declared.plan.run_line.RunLine.{RunLine}
+use Rattle.script_lang.specs.declared.plan.script.Script.{Script}
+use Rattle.script_lang.specs.declared.plan.session_plan.SessionPlan.{SessionPlan}
 use Rattle.script_lang.specs.SessionPlans.{StopBetween, plain}
 
 -- the word can name a node or a client
@@ -70,6 +70,7 @@ pub record KeepsSessions (script : Script) : Type 0 where
 -- the acts that are built so far
 abbrev pub IsBuiltAct : Act → Type 0
 IsBuiltAct (Update edit) = Unit {0}
+IsBuiltAct Read = Unit {0}
 IsBuiltAct (Go steps) = Unit {0}
 IsBuiltAct other = ⊥
 

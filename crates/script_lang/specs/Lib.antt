@@ -1,5 +1,6 @@
 pub mod AnswerForms
 pub mod Asked
+pub mod CallWords
 pub mod Chronicle
 pub mod Draft
 pub mod FaultOfWords

@@ -1,7 +1,7 @@
 -- The words that begin a line.
 use Rattle.std.specs.Prelude.{ℕ, List, codes}
-use Rattle.script_lang.specs.declared.line_word.LineWord.{LineWord}
-use Rattle.script_lang.specs.declared.line_word.LineWord.TheVariants.{File, History, Handler, Legacy, Migrate, Node, Client, Fault, Fuse, Die, Go, Stop}
+use Rattle.script_lang.specs.declared.parsing.line_word.LineWord.{LineWord}
+use Rattle.script_lang.specs.declared.parsing.line_word.LineWord.TheVariants.{File, History, Handler, Legacy, Migrate, Node, Client, Fault, Fuse, Die, Go, Stop}
 
 abbrev pub line_word : LineWord → List ℕ
 line_word File = codes "file"

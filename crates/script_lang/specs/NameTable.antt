@@ -1,7 +1,7 @@
 -- What a table of names keeps.
 use Rattle.std.specs.Prelude.{ℕ, List}
 use Rattle.std.specs.HashMap.{get_by_text}
-use Rattle.script_lang.specs.declared.name_table.NameTable.TheInside.{Inside}
+use Rattle.script_lang.specs.declared.parsing.name_table.NameTable.TheInside.{Inside}
 use Rattle.script_lang.specs.Finding.{Finds}
 
 -- each name is looked up by its bytes

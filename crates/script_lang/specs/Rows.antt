@@ -6,7 +6,7 @@ use Rattle.folder_disk.specs.declared.main_read.MainRead.TheVariants.{Absent, By
 use Rattle.script_words.specs.Names.{IsName}
 use Rattle.script_words.specs.Numbers.{IsNumberWithin}
 use Rattle.script_words.specs.Words.{AreWords}
-use Rattle.script_lang.specs.declared.line_word.LineWord.{LineWord}
+use Rattle.script_lang.specs.declared.parsing.line_word.LineWord.{LineWord}
 use Rattle.script_lang.specs.LineWord.{line_word}
 
 -- a line word, or another word in the place of a client, with the words behind it

@@ -1,8 +1,8 @@
 -- The nine rules of a transcript that tells the truth, each by its name.
 use Rattle.std.specs.Prelude.{List}
 use Rattle.shelf.specs.Each.{Each}
-use Rattle.script_lang.specs.declared.script.Script.{Script}
-use Rattle.script_lang.specs.declared.transcript.Transcript.{Transcript}
+use Rattle.script_lang.specs.declared.plan.script.Script.{Script}
+use Rattle.script_lang.specs.declared.transcripts.transcript.Transcript.{Transcript}
 use Rattle.script_lang.specs.Chronicle.{Basis, Chapter, IsChronicle}
 use Rattle.script_lang.specs.Good.{KeepsPlans, Scripted, Setting, TellsFile, chapters_of}
 use Rattle.script_lang.specs.GoodAnswers.{IsAnswered}

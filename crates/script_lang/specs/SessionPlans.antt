@@ -1,7 +1,7 @@
 -- The plans of sessions: one in which all goes well, and how sessions follow one another.
 use Rattle.std.specs.Prelude.{◌≡◌, ◌-◌, true, false, List, [], ◌∷◌, ◌++◌, length, replicate, map, None, is_some}
-use Rattle.script_lang.specs.declared.run_line.RunLine.{RunLine}
-use Rattle.script_lang.specs.declared.session_plan.SessionPlan.{SessionPlan}
+use Rattle.script_lang.specs.declared.plan.run_line.RunLine.{RunLine}
+use Rattle.script_lang.specs.declared.plan.session_plan.SessionPlan.{SessionPlan}
 
 -- nothing is planned to fail, and no stop ends the session
 abbrev pub plain : List RunLine → SessionPlan

@@ -1,16 +1,15 @@
 -- How a line spells what it says.
-use Rattle.std.specs.Prelude.{ℕ, ◌≡◌, List, ◌∷◌, codes, Some, slice_get}
+use Rattle.std.specs.Prelude.{ℕ, ◌≡◌, List, Some, slice_get}
 use Rattle.folder_disk.specs.declared.main_read.MainRead.{MainRead}
-use Rattle.prefs_edit.specs.declared.edit_step.EditStep.{EditStep}
 use Rattle.store_traits.specs.declared.ids.ClientId.{ClientId}
 use Rattle.store_traits.specs.declared.ids.NodeId.{NodeId}
-use Rattle.script_words.specs.EditWords.{AreEditWords}
-use Rattle.script_lang.specs.declared.draft.Draft.{Draft}
-use Rattle.script_lang.specs.declared.line.Line.{Line}
-use Rattle.script_lang.specs.declared.line.Line.TheVariants.{Nothing, File, History, Node, Client, Run}
-use Rattle.script_lang.specs.declared.line_word.LineWord.TheVariants as word
-use Rattle.script_lang.specs.declared.run_line.Act.{Act}
-use Rattle.script_lang.specs.declared.run_line.Act.TheVariants.{Update, Go}
+use Rattle.script_lang.specs.declared.parsing.draft.Draft.{Draft}
+use Rattle.script_lang.specs.declared.parsing.line.Line.{Line}
+use Rattle.script_lang.specs.declared.parsing.line.Line.TheVariants.{Nothing, File, History, Node, Client, Run}
+use Rattle.script_lang.specs.declared.parsing.line_word.LineWord.TheVariants as word
+use Rattle.script_lang.specs.declared.plan.run_line.Act.{Act}
+use Rattle.script_lang.specs.declared.plan.run_line.Act.TheVariants.{Go}
+use Rattle.script_lang.specs.CallWords.{AreCallWords}
 use Rattle.script_lang.specs.Rows.{Row, keyword, call, HasRow, IsSkipped, IsFileRow, IsHistoryRow, IsNodeRow, IsClientRow, IsGoRow}
 
 pub record SpellsFile (row : Row) (main : MainRead) : Type 0 where
@@ -43,17 +42,16 @@ pub record SpellsGo (draft : Draft) (row : Row) (client : ClientId) (steps : ℕ
   pub follow : IsGoRow behind name steps
   pub declared : slice_get draft.clients client.0 ≡ Some name
 
-pub record SpellsUpdate (draft : Draft) (row : Row) (client : ClientId) (edit : List EditStep) : Type 0 where
+pub record SpellsCall (draft : Draft) (row : Row) (client : ClientId) (act : Act) : Type 0 where
   pub name : List ℕ
-  pub words : List (List ℕ)
-  pub is : row ≡ call name (codes "update" ∷ words)
-  pub follow : AreEditWords words edit
+  pub behind : List (List ℕ)
+  pub is : row ≡ call name behind
+  pub follow : AreCallWords behind act
   pub declared : slice_get draft.clients client.0 ≡ Some name
 
 abbrev pub SpellsAct : Draft → Row → ClientId → Act → Type 0
-SpellsAct draft row client (Update edit) = SpellsUpdate draft row client edit
 SpellsAct draft row client (Go steps) = SpellsGo draft row client steps
-SpellsAct draft row client _ = ⊥
+SpellsAct draft row client act = SpellsCall draft row client act
 
 abbrev pub Spells : Draft → Row → Line → Type 0
 Spells draft row Nothing = ⊥

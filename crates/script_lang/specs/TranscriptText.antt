@@ -9,9 +9,9 @@ use Rattle.prefs_text.specs.declared.names.Names.{Names}
 use Rattle.prefs_text.specs.AnswerText.{AnswerHasNames, answer_text, numbered}
 use Rattle.prefs_text.specs.EntryText.{PrefEntry, EntryHasNames, entry_text}
 use Rattle.prefs_text.specs.MapText.{map_text}
-use Rattle.script_lang.specs.declared.file_seen.FileSeen.{FileSeen}
-use Rattle.script_lang.specs.declared.file_seen.FileSeen.TheVariants.{Absent, Bytes, TooLong}
-use Rattle.script_lang.specs.declared.transcript.Transcript.{Transcript}
+use Rattle.script_lang.specs.declared.transcripts.file_seen.FileSeen.{FileSeen}
+use Rattle.script_lang.specs.declared.transcripts.file_seen.FileSeen.TheVariants.{Absent, Bytes, TooLong}
+use Rattle.script_lang.specs.declared.transcripts.transcript.Transcript.{Transcript}
 use Rattle.script_lang.specs.TranscriptView.{SessionSeen}
 
 -- a line ends with a newline

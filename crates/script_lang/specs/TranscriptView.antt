@@ -5,8 +5,8 @@ use Rattle.hist_journal.specs.declared.seen.BaseSeen.{BaseSeen}
 use Rattle.hist_journal.specs.View.{base_seen}
 use Rattle.prefs_text.specs.declared.seen.AnswerLineSeen.{AnswerLineSeen}
 use Rattle.prefs_text.specs.EntryText.{PrefEntry}
-use Rattle.script_lang.specs.declared.file_seen.FileSeen.{FileSeen}
-use Rattle.script_lang.specs.declared.session.Session.{Session}
+use Rattle.script_lang.specs.declared.transcripts.file_seen.FileSeen.{FileSeen}
+use Rattle.script_lang.specs.declared.transcripts.session.Session.{Session}
 
 -- of its journal the entries alone
 pub record SessionSeen : Type 0 where

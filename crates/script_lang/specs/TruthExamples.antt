@@ -24,12 +24,12 @@ use Rattle.prefs_text.specs.declared.seen.AnswerSeen.TheVariants as answer
 use Rattle.prefs_text.specs.declared.seen.AnswerSeen.TheVariants.{Updated, Unchanged, Refused, NotDurable, Died, Posted, Restarted}
 use Rattle.prefs_text.specs.EntryText.{PrefEntry, PrefKind}
 use Rattle.shelf.specs.Rules.{rules_of}
-use Rattle.script_lang.specs.declared.file_seen.FileSeen.TheVariants.{Bytes}
-use Rattle.script_lang.specs.declared.run_line.Act.TheVariants.{Update, Read, Flow, Post, Restart, Go}
-use Rattle.script_lang.specs.declared.run_line.RunLine.{RunLine}
-use Rattle.script_lang.specs.declared.script.Script.{Script}
-use Rattle.script_lang.specs.declared.session_plan.SessionPlan.{SessionPlan}
-use Rattle.script_lang.specs.declared.transcript.Transcript.{Transcript}
+use Rattle.script_lang.specs.declared.transcripts.file_seen.FileSeen.TheVariants.{Bytes}
+use Rattle.script_lang.specs.declared.plan.run_line.Act.TheVariants.{Update, Read, Flow, Post, Restart, Go}
+use Rattle.script_lang.specs.declared.plan.run_line.RunLine.{RunLine}
+use Rattle.script_lang.specs.declared.plan.script.Script.{Script}
+use Rattle.script_lang.specs.declared.plan.session_plan.SessionPlan.{SessionPlan}
+use Rattle.script_lang.specs.declared.transcripts.transcript.Transcript.{Transcript}
 use Rattle.script_lang.specs.Chronicle.{Basis}
 use Rattle.script_lang.specs.SessionPlans.{plain}
 use Rattle.script_lang.specs.TranscriptView.{SessionSeen}

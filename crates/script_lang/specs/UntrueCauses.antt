@@ -7,9 +7,9 @@ use Rattle.hist_journal.specs.declared.seen.KindSeen.TheVariants.{Raise, Edit, S
 use Rattle.prefs_text.specs.declared.seen.AnswerSeen.{AnswerSeen}
 use Rattle.prefs_text.specs.declared.seen.AnswerSeen.TheVariants as answer
 use Rattle.prefs_text.specs.declared.seen.AnswerSeen.TheVariants.{Updated, Refused, Corrupt, FileTooLong, ValueTooLong, HistoryFull, StorageFault, NotDurable, LegacyFault, Died, Posted, Full, NotDead}
-use Rattle.script_lang.specs.declared.file_seen.FileSeen.TheVariants.{Absent, Bytes}
-use Rattle.script_lang.specs.declared.run_line.Act.TheVariants.{Read, Restart}
-use Rattle.script_lang.specs.declared.script.Script.{Script}
+use Rattle.script_lang.specs.declared.transcripts.file_seen.FileSeen.TheVariants.{Absent, Bytes}
+use Rattle.script_lang.specs.declared.plan.run_line.Act.TheVariants.{Read, Restart}
+use Rattle.script_lang.specs.declared.plan.script.Script.{Script}
 use Rattle.script_lang.specs.SessionPlans.{plain}
 use Rattle.script_lang.specs.TranscriptView.{SessionSeen}
 use Rattle.script_lang.specs.TruthExamples.{a, actor, add, answered, asks, b, death_told, did, encoded, entry, greatest_told, holds, restart_told, script, set, sync_failed_told, two_nodes_told, two_posts_told, update}

@@ -6,9 +6,9 @@ use Rattle.hist_journal.specs.declared.seen.KindSeen.TheVariants.{Raise, Edit, S
 use Rattle.folder_disk.specs.declared.main_read.MainRead.TheVariants as main
 use Rattle.prefs_text.specs.declared.seen.AnswerSeen.TheVariants as answer
 use Rattle.prefs_text.specs.declared.seen.AnswerSeen.TheVariants.{Updated, Unchanged, Died, Posted, Restarted, Cut}
-use Rattle.script_lang.specs.declared.file_seen.FileSeen.TheVariants.{Absent, Bytes, TooLong}
-use Rattle.script_lang.specs.declared.script.Script.{Script}
-use Rattle.script_lang.specs.declared.transcript.Transcript.{Transcript}
+use Rattle.script_lang.specs.declared.transcripts.file_seen.FileSeen.TheVariants.{Absent, Bytes, TooLong}
+use Rattle.script_lang.specs.declared.plan.script.Script.{Script}
+use Rattle.script_lang.specs.declared.transcripts.transcript.Transcript.{Transcript}
 use Rattle.script_lang.specs.Rules.{Breaks, Rule}
 use Rattle.script_lang.specs.TranscriptView.{SessionSeen}
 use Rattle.script_lang.specs.TruthExamples.{a, actor, add, answered, b, basis, death_and_stop, death_and_stop_plan, death_told, did, encoded, entry, flows_told, holds, names, read_plan, read_told, restart_told, script, set, sync_failed_plan, told, two_nodes_plan, two_nodes_told, two_posts_told, update}

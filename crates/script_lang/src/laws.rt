@@ -1,8 +1,8 @@
 //! What scripts have, for all bytes: each law is the contract of a function that does nothing.
 ghost use Rattle.std.specs.Prelude.{◌≡◌, ℕ, List};
-ghost use Rattle.script_lang.specs.declared.mode.Mode.{Mode};
-ghost use Rattle.script_lang.specs.declared.script.Script.{Script};
-ghost use Rattle.script_lang.specs.declared.script_error.ScriptFault.{ScriptFault};
+ghost use Rattle.script_lang.specs.declared.plan.mode.Mode.{Mode};
+ghost use Rattle.script_lang.specs.declared.plan.script.Script.{Script};
+ghost use Rattle.script_lang.specs.declared.parsing.script_error.ScriptFault.{ScriptFault};
 ghost use Rattle.script_lang.specs.Keeps.{Keeps};
 ghost use Rattle.script_lang.specs.Meaning.{Faulty, Means};
 

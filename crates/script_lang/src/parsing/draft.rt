@@ -1,0 +1,143 @@
+use super::name_table::NameTable;
+use super::start_rows::MAX_ENTRIES;
+use crate::{Line, Mode, RunLine, Script, Series, SessionPlan, Start};
+use folder_disk::MainRead;
+use prefs_text::Names;
+use script_words::is_reserved;
+use std::alloc::{AllocError, Global};
+use store_traits::NodeId;
+
+/// The script that lines make, as far as they are read, and by which command.
+#[derive(Drop)]
+pub struct Draft {
+    pub(crate) mode: Mode,
+    pub(crate) nodes: NameTable,
+    pub(crate) clients: NameTable,
+    /// The node of each client.
+    pub(crate) homes: Series<NodeId>,
+    /// None before a line says it.
+    pub(crate) file: Option<MainRead>,
+    /// None before a line says it.
+    pub(crate) entries: Option<u64>,
+    pub(crate) lines: Series<RunLine>,
+}
+
+impl Draft {
+    ghost use Rattle.std.specs.Prelude.{◌≡◌, ◌↔◌, [], IsTrue, IfOk};
+    ghost use Rattle.script_lang.specs.Draft.{draft_of};
+    ghost use Rattle.script_lang.specs.Faults.{IsTaken, BarsFile, BarsHistory, FollowsNode, FollowsOther};
+    ghost use Rattle.script_lang.specs.Growth.{HasPlace, draft_with};
+    ghost use Rattle.script_lang.specs.Meaning.{script_of};
+
+    pub(crate) fn new(alloc: Global, mode: Mode) -> Draft
+        ensures { result ≡ draft_of mode [] }
+    {
+        Draft {
+            mode,
+            nodes: NameTable::new(alloc),
+            clients: NameTable::new(alloc),
+            homes: Series::new(alloc),
+            file: None,
+            entries: None,
+            lines: Series::new(alloc),
+        }
+    }
+
+    /// Whether nothing can be named so, or something is.
+    pub(crate) fn is_taken(&self, name: &str) -> bool
+        ensures { IsTrue result ↔ IsTaken self.now name.now }
+    {
+        is_reserved(name) || self.nodes.contains(name) || self.clients.contains(name)
+    }
+
+    /// Whether a `file` line may not stand behind this.
+    pub(crate) fn bars_file(&self) -> bool
+        ensures { IsTrue result ↔ BarsFile self.now }
+    {
+        self.mode == Mode::Nodes || self.follows_node() || self.file.is_some()
+    }
+
+    /// Whether a `history` line may not stand behind this.
+    pub(crate) fn bars_history(&self) -> bool
+        ensures { IsTrue result ↔ BarsHistory self.now }
+    {
+        self.follows_node() || self.entries.is_some()
+    }
+
+    /// Whether a node is declared.
+    fn follows_node(&self) -> bool
+        ensures { IsTrue result ↔ FollowsNode self.now }
+    {
+        self.nodes.len() > 0
+    }
+
+    /// Whether a client has a line to follow.
+    pub(crate) fn follows_other(&self) -> bool
+        ensures { IsTrue result ↔ FollowsOther self.now }
+    {
+        !self.lines.is_empty()
+    }
+
+    /// The draft with what one line more says.
+    pub(crate) fn with(self, alloc: Global, line: Line) -> Result<Draft, AllocError>
+        requires { HasPlace self line }
+        ensures { IfOk result (λ draft. draft ≡ draft_with self line) }
+    {
+        let Draft {
+            mode,
+            mut nodes,
+            mut clients,
+            mut homes,
+            mut file,
+            mut entries,
+            mut lines,
+        } = self;
+        match line {
+            Line::Nothing => {}
+            Line::File(main) => file = Some(main),
+            Line::History(most) => entries = Some(most),
+            Line::Node(name) => nodes = nodes.with(alloc, name)?,
+            Line::Client(name, home) => {
+                clients = clients.with(alloc, name)?;
+                homes.push(home)?;
+            }
+            Line::Run(line) => lines.push(line)?,
+        }
+        Ok(Draft {
+            mode,
+            nodes,
+            clients,
+            homes,
+            file,
+            entries,
+            lines,
+        })
+    }
+
+    /// The script that the lines make, all in one session.
+    pub(crate) fn into_script(self, alloc: Global) -> Result<Script, AllocError>
+        ensures { IfOk result (λ script. script ≡ script_of self) }
+    {
+        let plan = SessionPlan {
+            folder_faults: Series::new(alloc),
+            fuse: None,
+            deaths: Series::new(alloc),
+            lines: self.lines,
+            stop: None,
+        };
+        let sessions = vec![in alloc; plan]?;
+        Ok(Script {
+            names: Names {
+                nodes: self.nodes.into_list(),
+                clients: self.clients.into_list(),
+            },
+            homes: self.homes,
+            start: Start {
+                file: self.file.unwrap_or(MainRead::Absent),
+                entries: self.entries.unwrap_or(MAX_ENTRIES),
+                replace: false,
+            },
+            sessions: Series::from_vec(sessions),
+        })
+    }
+}
