@@ -2,9 +2,13 @@
 pub mod AnswerLemmas
 pub mod BehindTurns
 pub mod CallKept
+pub mod KeptBehind
+pub mod LookKeeps
 pub mod OwnTurns
 pub mod Peaceful
 pub mod ReplacedClient
 pub mod RunKeeps
+pub mod SameClients
+pub mod StepCases
 pub mod StepsKeep
 pub mod TurnKeeps

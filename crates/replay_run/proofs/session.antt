@@ -8,3 +8,4 @@ pub mod SessionRun
 pub mod SessionTurns
 pub mod ShelfOpening
 pub mod ToldLines
+pub mod TrueCacheLemmas

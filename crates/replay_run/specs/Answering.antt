@@ -1,14 +1,15 @@
 -- How the reply to a call is told in a transcript, and what it leaves of the client.
 use Rattle.std.specs.Prelude.{[], ◌∷◌, ◌++◌, Option, Some, None, option_map}
+use Rattle.store_traits.specs.declared.ids.CallId.{CallId}
 use Rattle.store_traits.specs.declared.update_error.UpdateError.{UpdateError}
 use Rattle.store_traits.specs.declared.update_error.UpdateError.TheVariants as error
 use Rattle.prefs_text.specs.declared.seen.AnswerSeen.{AnswerSeen}
 use Rattle.prefs_text.specs.declared.seen.AnswerSeen.TheVariants as seen
-use Rattle.step_table.specs.Calls.{Reply, Updated, Gave, Failed}
+use Rattle.step_table.specs.Calls.{Read, Reply, Updated, Gave, Failed}
 use Rattle.step_table.specs.declared.progress.Progress.{Progress}
 use Rattle.step_table.specs.declared.progress.Progress.TheVariants.{Ended}
-use Rattle.replay_run.specs.RunState.{Client}
-use Rattle.replay_run.specs.Settings.{PrefCall, Value}
+use Rattle.replay_run.specs.RunState.{Client, new_call}
+use Rattle.replay_run.specs.Settings.{PrefCached, PrefCall, Value}
 
 -- want of memory is told by no line: it ends a run without a transcript
 abbrev pub error_told : UpdateError → Option AnswerSeen
@@ -23,14 +24,21 @@ error_told (error.LegacyFault place) = Some (seen.LegacyFault place)
 error_told (error.Died place) = Some (seen.Died place)
 error_told error.NoMemory = None
 
--- what an update is answered; reads join with their lines
 abbrev pub reply_told : Reply Value → Option AnswerSeen
 reply_told (Updated edition) = Some (seen.Updated edition)
+reply_told (Gave edition value) = Some (seen.Read edition value)
 reply_told (Failed error) = error_told error
-reply_told (Gave edition value) = None
 
--- the client behind a turn of its call: a line of the answer joins the others, or the call goes on
+-- a line of the answer joins the others
+abbrev pub client_answered : Client → CallId → AnswerSeen → Client
+client_answered client call answer = record client { running = None; answered = client.answered ++ record { call = call; poster = None; answer = answer } ∷ [] }
+
+-- the client behind a turn of its call: the call is answered, or goes on
 abbrev pub behind_turn : Client → PrefCall → Progress (Reply Value) → Option Client
-behind_turn client call (Ended reply) =
-    option_map (λ answer. record client { running = None; answered = client.answered ++ record { call = call.id; poster = None; answer = answer } ∷ [] }) (reply_told reply)
+behind_turn client call (Ended reply) = option_map (client_answered client call.id) (reply_told reply)
 behind_turn client call gave = Some (record client { running = Some call })
+
+-- the client behind the look of its read: what was found answers it, or it goes on to its first turn
+abbrev pub behind_look : Client → Option PrefCached → Client
+behind_look client (Some kept) = client_answered client (new_call client Read).id (seen.Read kept.edition kept.value)
+behind_look client None = record client { running = Some (new_call client Read) }

@@ -8,19 +8,21 @@ use Rattle.prefs_text.specs.declared.seen.AnswerSeen.{AnswerSeen}
 use Rattle.prefs_text.specs.declared.seen.AnswerSeen.TheVariants as seen
 use Rattle.shelf.specs.declared.store.Store.{Store}
 use Rattle.shelf.specs.Acknowledged.{IsUpdated}
-use Rattle.shelf.specs.Causes.{HasCause}
+use Rattle.shelf.specs.Causes.{HasCause, HasReadCause}
 use Rattle.shelf.specs.Each.{Each}
 use Rattle.shelf.specs.Entries.{is_own, is_update}
+use Rattle.shelf.specs.Places.{HasFront}
 use Rattle.step_table.specs.Calls.{is_gone}
 use Rattle.node_core.specs.Knows.{Knows}
 use Rattle.node_core.specs.Own.{IsFor}
-use Rattle.script_lang.specs.AnswerForms.{update_error}
+use Rattle.script_lang.specs.AnswerForms.{read_error, update_error}
 use Rattle.script_lang.specs.GoodCauses.{may_stand}
+use Rattle.script_lang.specs.GoodReads.{HasValue}
 use Rattle.script_lang.specs.Shown.{printed, shown_to}
-use Rattle.script_lang.specs.declared.run_line.Act.{Act}
-use Rattle.script_lang.specs.declared.run_line.Act.TheVariants as act
-use Rattle.replay_run.specs.RunState.{Client, act_now, call_at}
-use Rattle.replay_run.specs.Settings.{Change, PrefCall, PrefRules, PrefWorld, Value}
+use Rattle.script_lang.specs.declared.plan.run_line.Act.{Act}
+use Rattle.script_lang.specs.declared.plan.run_line.Act.TheVariants as act
+use Rattle.replay_run.specs.RunState.{Client, act_now, act_of, call_at}
+use Rattle.replay_run.specs.Settings.{Change, PrefAsk, PrefCall, PrefRules, PrefWorld, Value}
 
 module _ (r : PrefRules) {M : Type 0} (s : Store Value M) where
   module _ (list : List PrefEntry) where
@@ -29,9 +31,15 @@ module _ (r : PrefRules) {M : Type 0} (s : Store Value M) where
     IsUpdateExplained shown call edit (seen.Updated edition) = IsUpdated call edit edition list
     IsUpdateExplained shown call edit answer = MatchOption (update_error answer) ⊥ (λ error. HasCause r s shown call edit error list)
 
+    -- a value that is read is that of its edition, and an error has its cause
+    abbrev pub IsReadExplained : (shown : ℕ) → CallId → AnswerSeen → Type 0
+    IsReadExplained shown call (seen.Read edition value) = HasFront (HasValue r s edition value) list
+    IsReadExplained shown call answer = MatchOption (read_error answer) ⊥ (λ error. HasReadCause r s shown call error list)
+
     -- by what the call asks for; other calls have no answers yet
     abbrev pub IsExplained : (shown : ℕ) → CallId → Act → AnswerSeen → Type 0
     IsExplained shown call (act.Update edit) answer = IsUpdateExplained shown call edit answer
+    IsExplained shown call act.Read answer = IsReadExplained shown call answer
     IsExplained shown call other answer = ⊥
 
     -- the line behind these answers the client's next call, and tells the truth of it
@@ -46,12 +54,12 @@ module _ (r : PrefRules) {M : Type 0} (s : Store Value M) where
       -- any other leaves no Edit and no Same
       pub none : may_stand line.answer ≡ false → list_any (is_own is_update line.call) list ≡ false
 
-  -- the call that runs is the one that the client is at, and is at work for its edit
+  -- the call that runs is the one that the client is at, and is at work for what that asks for
   pub record CallInvariant (client : Client) (w : PrefWorld) (call : PrefCall) : Type 0 where
-    pub edit : Change
-    pub asked : act_now client ≡ Some (act.Update edit)
+    pub ask : PrefAsk
+    pub asked : act_now client ≡ Some (act_of ask)
     pub id : call.id ≡ call_at client (length client.answered)
-    pub is_for : IsFor call.id edit call.at w.history
+    pub is_for : IsFor call.id ask call.at w.history
     pub knows : Knows r s w call
     pub goes_on : is_gone call.at ≡ false
 

@@ -1,5 +1,5 @@
 -- What one client's step asks for, and what it is made of.
-use Rattle.std.specs.Prelude.{◌≡◌, ◌⊎◌, ℕ, true, false, [], Some, None, length}
+use Rattle.std.specs.Prelude.{◌≡◌, ℕ, true, [], Some, None, length}
 use Rattle.store_traits.specs.declared.codec.Codec as codec_trait
 use Rattle.store_traits.specs.declared.ids.CallId.{CallId}
 use Rattle.store_traits.specs.declared.transform.Transform as transform_trait
@@ -8,30 +8,27 @@ use Rattle.folder_disk.specs.declared.mem_folder.MemFolder.{MemFolder}
 use Rattle.prefs_proto.specs.declared.prefs_codec.PrefsCodec.{PrefsCodec}
 use Rattle.prefs_text.specs.AnswerView.{line_seen}
 use Rattle.prefs_text.specs.declared.answer_line.AnswerLine.{AnswerLine}
-use Rattle.script_lang.specs.declared.run_line.Act.TheVariants as act
 use Rattle.shelf.specs.AddsNode.{is_among}
 use Rattle.shelf.specs.declared.shelf.Shelf.{Shelf}
 use Rattle.shelf.specs.ShelfSeen.{shelf_seen}
+use Rattle.node_core.specs.Ready.{Equipped}
+use Rattle.node_core.specs.Step.{KeepsRoom}
 use Rattle.step_table.specs.Calls.{Reply}
 use Rattle.step_table.specs.declared.progress.Progress.TheVariants.{Ended}
 use Rattle.replay_run.specs.declared.client.Client as own
 use Rattle.replay_run.specs.declared.prefs_parts.PrefsParts.{PrefsParts}
+use Rattle.replay_run.specs.declared.running.Running.{Running}
 use Rattle.replay_run.specs.Answering.{behind_turn, reply_told}
 use Rattle.replay_run.specs.ClientInvariant.{CallInvariant}
-use Rattle.replay_run.specs.RunState.{act_now, call_at, call_now}
-use Rattle.replay_run.specs.SessionView.{EquippedIn, Running, client_seen, rules_in, shared_in, store_in, update_seen}
-use Rattle.replay_run.specs.Settings.{Change, PrefCall, Value}
+use Rattle.replay_run.specs.RunState.{act_now, act_of, call_at, call_now}
+use Rattle.replay_run.specs.SessionView.{EquippedIn, client_seen, rules_in, running_seen, store_in, world_in}
+use Rattle.replay_run.specs.Settings.{Change, PrefAsk, PrefCall, Value}
 
 -- the line tells this reply to a client's call
 pub record AnswersBy (id : CallId) (reply : Reply Value) (line : AnswerLine) : Type 0 where
   pub call : line.call ≡ id
   pub poster : line.poster ≡ None
   pub told : reply_told reply ≡ Some (line_seen line).answer
-
--- the call that runs, or a new one, before its next turn
-pub record IsItsCall (old : own.Client) (edit : Change) (call : Running) : Type 0 where
-  pub seen : update_seen call ≡ call_now (client_seen old) edit
-  pub begun : (old.running ≡ Some call) ⊎ ((old.running ≡ None) × (call.initialised ≡ false))
 
 -- its next answer tells this reply
 abbrev pub IsAnswered : own.Client → Reply Value → own.Client → Type 0
@@ -41,12 +38,22 @@ module _ {c : codec_trait.Ghosts PrefsCodec Value} {t : transform_trait.Ghosts C
   -- the call that the client is at may take its turn
   pub record MayGo (client : own.Client) (shelf : Shelf (PrefsParts MemFolder) PrefsCodec Change MemFolder Value c t f) : Type 0 where
     pub node : is_among client.node (store_in shelf).nodes ≡ true
-    pub call : (edit : Change) → act_now (client_seen client) ≡ Some (act.Update edit) → CallInvariant (rules_in shelf) (store_in shelf) (client_seen client) (shared_in shelf).world (call_now (client_seen client) edit)
+    pub call : (ask : PrefAsk) → act_now (client_seen client) ≡ Some (act_of ask) → CallInvariant (rules_in shelf) (store_in shelf) (client_seen client) (world_in shelf) (call_now (client_seen client) ask)
     pub equipped : EquippedIn shelf client
     -- no call of the folder is to fail
-    pub planned : (shared_in shelf).world.tally.due.planned ≡ []
-    pub fuses : (shared_in shelf).world.tally.due.fuses ≡ []
+    pub planned : (world_in shelf).tally.due.planned ≡ []
+    pub fuses : (world_in shelf).tally.due.fuses ≡ []
 
-  -- where a call of another client owns the lock, all of the shelf stays
+  -- the client has put aside the call that it is at, which may take its turn
+  pub record MayTurn (client : own.Client) (call : Running) (shelf : Shelf (PrefsParts MemFolder) PrefsCodec Change MemFolder Value c t f) : Type 0 where
+    pub idle : client.running ≡ None
+    pub node : is_among client.node (store_in shelf).nodes ≡ true
+    pub its : CallInvariant (rules_in shelf) (store_in shelf) (client_seen client) (world_in shelf) (running_seen call)
+    pub equipped : Equipped c t f (running_seen call).at (shelf_seen shelf)
+    -- no call of the folder is to fail
+    pub planned : (world_in shelf).tally.due.planned ≡ []
+    pub fuses : (world_in shelf).tally.due.fuses ≡ []
+
+  -- where a call of another client owns the lock, what is kept for that stays
   abbrev pub Spares : own.Client → (old new : Shelf (PrefsParts MemFolder) PrefsCodec Change MemFolder Value c t f) → Type 0
-  Spares client old new = (other : CallId) → (shelf_seen old).owner ≡ Some other → ((place : ℕ) → other ≡ call_at (client_seen client) place → ⊥) → shelf_seen new ≡ shelf_seen old
+  Spares client old new = (other : CallId) → (shelf_seen old).owner ≡ Some other → ((place : ℕ) → other ≡ call_at (client_seen client) place → ⊥) → KeepsRoom c t f (shelf_seen old) (shelf_seen new)

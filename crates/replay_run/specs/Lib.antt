@@ -9,6 +9,7 @@ pub mod Replays
 pub mod Rounds
 pub mod RunInvariant
 pub mod RunState
+pub mod RunningSteps
 pub mod ScriptRun
 pub mod SessionInvariant
 pub mod SessionPlayed
@@ -18,5 +19,6 @@ pub mod Settings
 pub mod ShelfOpens
 pub mod Start
 pub mod Steps
+pub mod TrueCaches
 pub mod Typed
 pub mod WorkLeft

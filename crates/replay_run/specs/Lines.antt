@@ -1,9 +1,9 @@
 -- What the lines of a script have its clients do.
 use Rattle.std.specs.Prelude.{◌≡◌, ℕ, suc, zero, List, [], ◌∷◌, ◌++◌, filter, map, Some, slice_get, slice_set}
 use Rattle.script_lang.specs.Asked.{is_call_line_of}
-use Rattle.script_lang.specs.declared.run_line.Act.{Act}
-use Rattle.script_lang.specs.declared.run_line.Act.TheVariants.{Go}
-use Rattle.script_lang.specs.declared.run_line.RunLine.{RunLine}
+use Rattle.script_lang.specs.declared.plan.run_line.Act.{Act}
+use Rattle.script_lang.specs.declared.plan.run_line.Act.TheVariants.{Go}
+use Rattle.script_lang.specs.declared.plan.run_line.RunLine.{RunLine}
 use Rattle.shelf.specs.declared.store.Store.{Store}
 use Rattle.replay_run.specs.RunState.{Client, RunState}
 use Rattle.replay_run.specs.Settings.{PrefRules, Value}

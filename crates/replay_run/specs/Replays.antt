@@ -1,6 +1,6 @@
 -- What a replay of a script gives.
-use Rattle.script_lang.specs.declared.script.Script.{Script}
-use Rattle.script_lang.specs.declared.transcript.Transcript.{Transcript}
+use Rattle.script_lang.specs.declared.plan.script.Script.{Script}
+use Rattle.script_lang.specs.declared.transcripts.transcript.Transcript.{Transcript}
 use Rattle.script_lang.specs.Chronicle.{Basis}
 use Rattle.script_lang.specs.Good.{Good}
 use Rattle.replay_run.specs.ScriptRun.{Runs}

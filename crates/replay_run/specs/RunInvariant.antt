@@ -1,18 +1,22 @@
 -- What holds between the steps of a run.
-use Rattle.std.specs.Prelude.{◌≡◌, ◌≤◌, ◌<◌, ◌+◌, ℕ, Bool, true, false, List, All, Contains, Some, IfSome, slice_get, length, count_by, if◌then◌else◌, is_some}
+use Rattle.std.specs.Prelude.{◌≡◌, ◌≤◌, ◌<◌, ◌+◌, ◌++◌, ℕ, Bool, true, false, List, All, Contains, Some, IfSome, slice_get, length, count_by, if◌then◌else◌, is_some}
 use Rattle.std.specs.List.{list_any}
 use Rattle.store_traits.specs.declared.ids.CallId.{CallId}
 use Rattle.folder_disk.specs.Tally.{most_of}
 use Rattle.hist_journal.specs.declared.device.Device.TheVariants.{Folder, Legacy}
 use Rattle.hist_journal.specs.declared.seen.KindSeen.TheVariants.{Cleared, Fault, Migrate, Replace, Restart}
+use Rattle.hist_journal.specs.Folds.{edition_of, raises_of}
+use Rattle.hist_journal.specs.Quiet.{Quiet, pending}
 use Rattle.prefs_text.specs.EntryText.{PrefEntry, PrefKind}
 use Rattle.shelf.specs.declared.store.Store.{Store}
 use Rattle.shelf.specs.Each.{Each}
 use Rattle.shelf.specs.Entries.{is_death}
+use Rattle.shelf.specs.Legal.{value_at}
 use Rattle.shelf.specs.Places.{is_fault_of}
 use Rattle.node_core.specs.Phases.{is_holding}
 use Rattle.node_core.specs.Reading.{ReadsTruly}
 use Rattle.script_lang.specs.GoodFailures.{IsPlanned}
+use Rattle.value_cache.specs.Truth.{IsOfPrefix}
 use Rattle.replay_run.specs.ClientInvariant.{ClientInvariant}
 use Rattle.replay_run.specs.RunState.{Client, RunState, call_at}
 use Rattle.replay_run.specs.Settings.{PrefCall, PrefRules, PrefWorld, Value}
@@ -62,8 +66,16 @@ module _ (r : PrefRules) {M : Type 0} (s : Store Value M) where
     pub deaths : Each (λ before e. is_death e.kind ≡ true → IsPlanned s.deaths before e.who) state.shared.world.history
     pub left : All (Contains s.deaths) state.shared.world.deaths
     pub built : list_any (λ e. is_later_work e.kind) state.shared.world.history ≡ false
+    -- no raise is open but that of the lock's owner, and the version word counts them
+    pub quiet : (call : CallId) → pending state.shared.world.history ≡ Some call → state.shared.world.owner ≡ Some call
+    pub version : state.shared.world.version ≡ raises_of state.shared.world.history
+    -- each cache keeps nothing, or the version, the value and the edition of a quiet prefix of the history; each client's node has one
+    pub cached : All (λ kept. IfSome kept (IsOfPrefix r.meanings.after s.base state.shared.world.history)) state.shared.caches
+    pub homes : All (λ client. client.node.0 < length state.shared.caches) state.clients
 
-  -- the folder tells what it holds, and main reads as the value of the history
+  -- the folder tells what it holds, main reads as the value of the history, and a quiet prefix that has all its raises has its value and its edition
   pub record ReadsWell (w : PrefWorld) : Type 0 where
     pub told : w.told ≡ true
     pub reads : ReadsTruly r s w
+    pub fresh : (front back : List PrefEntry) → w.history ≡ front ++ back → Quiet front → raises_of w.history ≡ raises_of front
+        → (value_at r.meanings s w.history ≡ value_at r.meanings s front) × (edition_of w.history ≡ edition_of front)

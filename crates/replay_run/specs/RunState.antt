@@ -4,9 +4,10 @@ use Rattle.store_traits.specs.declared.ids.CallId.{CallId}
 use Rattle.store_traits.specs.declared.ids.ClientId.{ClientId}
 use Rattle.store_traits.specs.declared.ids.NodeId.{NodeId}
 use Rattle.prefs_text.specs.declared.seen.AnswerLineSeen.{AnswerLineSeen}
-use Rattle.step_table.specs.Calls.{First, Update}
-use Rattle.script_lang.specs.declared.run_line.Act.{Act}
-use Rattle.replay_run.specs.Settings.{Change, PrefCall, PrefWorld}
+use Rattle.step_table.specs.Calls.{First, Read, Update}
+use Rattle.script_lang.specs.declared.plan.run_line.Act.{Act}
+use Rattle.script_lang.specs.declared.plan.run_line.Act.TheVariants as act
+use Rattle.replay_run.specs.Settings.{PrefAsk, PrefCached, PrefCall, PrefWorld}
 
 -- how many calls it was asked for in earlier sessions, what it is asked for in this one, the call that runs, and the lines that answer those before it
 pub record Client : Type 0 where
@@ -17,9 +18,15 @@ pub record Client : Type 0 where
   pub running : Option PrefCall
   pub answered : List AnswerLineSeen
 
--- cached histories join with reads, and mailboxes with posts
+-- the world, and what the cache of each node keeps, in the order of the nodes; mailboxes join with posts
 pub record Shared : Type 0 where
   pub world : PrefWorld
+  pub caches : List (Option PrefCached)
+
+-- what a client's step finds and leaves of that: the world, and what the cache of its node keeps
+pub record NodeView : Type 0 where
+  pub world : PrefWorld
+  pub kept : Option PrefCached
 
 -- the clients stand in the order of their declaration
 pub record RunState : Type 0 where
@@ -38,6 +45,15 @@ act_now client = slice_get client.asked (length client.answered)
 abbrev pub is_busy : Client → Bool
 is_busy client = is_some (act_now client)
 
--- the call of this update, which begins where none runs
-abbrev pub call_now : Client → Change → PrefCall
-call_now client edit = unwrap_or client.running (record { id = call_at client (length client.answered); at = First (Update edit); since = None })
+-- the call of what it is at, before its first turn
+abbrev pub new_call : Client → PrefAsk → PrefCall
+new_call client ask = record { id = call_at client (length client.answered); at = First ask; since = None }
+
+-- the call of what it is at, which begins where none runs
+abbrev pub call_now : Client → PrefAsk → PrefCall
+call_now client ask = unwrap_or client.running (new_call client ask)
+
+-- the line of a call
+abbrev pub act_of : PrefAsk → Act
+act_of (Update edit) = act.Update edit
+act_of Read = act.Read

@@ -5,8 +5,8 @@ use Rattle.prefs_text.specs.declared.seen.AnswerLineSeen.{AnswerLineSeen}
 use Rattle.prefs_text.specs.declared.seen.AnswerSeen.TheVariants.{Cut}
 use Rattle.shelf.specs.Base.{HasItsBase}
 use Rattle.shelf.specs.Each.{Each}
-use Rattle.script_lang.specs.declared.script.Script.{Script}
-use Rattle.script_lang.specs.declared.transcript.Transcript.{Transcript}
+use Rattle.script_lang.specs.declared.plan.script.Script.{Script}
+use Rattle.script_lang.specs.declared.transcripts.transcript.Transcript.{Transcript}
 use Rattle.script_lang.specs.Chronicle.{Basis, Chapter, tally_of}
 use Rattle.script_lang.specs.Good.{Scripted, chapters_of, file_seen}
 use Rattle.script_lang.specs.TranscriptView.{SessionSeen}

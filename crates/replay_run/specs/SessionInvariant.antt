@@ -15,7 +15,7 @@ pub record SessionInvariant (session : RunningSession) : Type 0 where
   pub nodes : All (λ client. is_among client.node (store_in session.shelf).nodes ≡ true) session.clients.items
   pub equipped : All (λ client. EquippedIn session.shelf client) session.clients.items
 
--- no client is asked for more updates than this
+-- no client is asked for more calls than this
 abbrev pub AsksFew : ℕ → RunningSession → Type 0
 AsksFew most session = All (λ client. vec_len client.asked ≤ most) session.clients.items
 

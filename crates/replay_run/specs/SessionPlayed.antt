@@ -1,6 +1,6 @@
 -- What comes of a script's session.
-use Rattle.script_lang.specs.declared.script.Script.{Script}
-use Rattle.script_lang.specs.declared.session_plan.SessionPlan.{SessionPlan}
+use Rattle.script_lang.specs.declared.plan.script.Script.{Script}
+use Rattle.script_lang.specs.declared.plan.session_plan.SessionPlan.{SessionPlan}
 use Rattle.script_lang.specs.Chronicle.{Basis, Chapter, chapter_of, first_beginning}
 use Rattle.script_lang.specs.TranscriptView.{SessionSeen}
 use Rattle.replay_run.specs.EndInvariant.{EndInvariant}

@@ -1,8 +1,8 @@
 -- How a session is opened, and which lines it can follow.
 use Rattle.std.specs.Prelude.{◌≡◌, ◌<◌, ℕ, []}
-use Rattle.script_lang.specs.declared.run_line.RunLine.{RunLine}
-use Rattle.script_lang.specs.declared.script.Script.{Script}
-use Rattle.script_lang.specs.declared.session_plan.SessionPlan.{SessionPlan}
+use Rattle.script_lang.specs.declared.plan.run_line.RunLine.{RunLine}
+use Rattle.script_lang.specs.declared.plan.script.Script.{Script}
+use Rattle.script_lang.specs.declared.plan.session_plan.SessionPlan.{SessionPlan}
 use Rattle.script_lang.specs.Chronicle.{Basis, first_beginning, store_of, tally_of}
 use Rattle.script_lang.specs.Keeps.{IsBuiltAct, IsPlain}
 use Rattle.script_lang.specs.TranscriptView.{SessionSeen}

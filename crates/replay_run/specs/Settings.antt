@@ -4,8 +4,9 @@ use Rattle.prefs_edit.specs.declared.edit_step.EditStep.{EditStep}
 use Rattle.prefs_model.specs.declared.pref_pair.PrefPair.{PrefPair}
 use Rattle.shelf.specs.declared.store.Store.{Store}
 use Rattle.shelf.specs.Rules.{Rules}
-use Rattle.step_table.specs.Calls.{Call}
+use Rattle.step_table.specs.Calls.{Ask, Call}
 use Rattle.step_table.specs.World.{World}
+use Rattle.value_cache.specs.Cached.{Cached}
 
 abbrev pub Value : Type 0
 Value = List PrefPair
@@ -16,8 +17,16 @@ Change = List EditStep
 abbrev pub PrefCall : Type 0
 PrefCall = Call Value Change
 
+-- what an update asks for, or a read
+abbrev pub PrefAsk : Type 0
+PrefAsk = Ask Change
+
 abbrev pub PrefWorld : Type 0
 PrefWorld = World Value Change
+
+-- a value that a cache keeps
+abbrev pub PrefCached : Type 0
+PrefCached = Cached Value
 
 abbrev pub PrefRules : Type 1
 PrefRules = Rules Value Change

@@ -10,13 +10,13 @@ use Rattle.prefs_proto.specs.declared.prefs_codec.PrefsCodec.{PrefsCodec}
 use Rattle.shelf.specs.declared.shelf.Shelf.{Shelf}
 use Rattle.shelf.specs.Base.{HasItsBase}
 use Rattle.shelf.specs.ShelfSeen.{ShelfSeen}
-use Rattle.script_lang.specs.declared.script.Script.{Script}
-use Rattle.script_lang.specs.declared.session_plan.SessionPlan.{SessionPlan}
+use Rattle.script_lang.specs.declared.plan.script.Script.{Script}
+use Rattle.script_lang.specs.declared.plan.session_plan.SessionPlan.{SessionPlan}
 use Rattle.script_lang.specs.Chronicle.{Basis, nodes_of, tally_of}
 use Rattle.script_lang.specs.Keeps.{IsPlain}
 use Rattle.replay_run.specs.declared.prefs_parts.PrefsParts.{PrefsParts}
 use Rattle.replay_run.specs.SessionSteps.{IsStoreOf}
-use Rattle.replay_run.specs.SessionView.{shared_in, store_in}
+use Rattle.replay_run.specs.SessionView.{store_in, world_in}
 use Rattle.replay_run.specs.Settings.{Change, Value}
 use Rattle.replay_run.specs.Start.{world_of}
 
@@ -31,7 +31,7 @@ with_nodes s nodes = record s { store = record s.store { nodes = nodes } }
 module _ {c : codec_trait.Ghosts PrefsCodec Value} {t : transform_trait.Ghosts Change Value} {f : folder_trait.Ghosts MemFolder} where
   -- nothing has happened yet, no call of the folder is to fail, and only the nodes are missing
   pub record ShelfOpens (b : Basis) (script : Script) (shelf : Shelf (PrefsParts MemFolder) PrefsCodec Change MemFolder Value c t f) : Type 0 where
-    pub starts : (plan : SessionPlan) → IsPlain plan → (shared_in shelf).world ≡ world_of (tally_of (store_in shelf).folder.count plan) (store_in shelf)
+    pub starts : (plan : SessionPlan) → IsPlain plan → world_in shelf ≡ world_of (tally_of (store_in shelf).folder.count plan) (store_in shelf)
     pub base : HasItsBase b.rules.reads b.rules.absent (store_in shelf)
     pub count : (store_in shelf).folder.count ≡ 0
     pub spare : (store_in shelf).folder.most ≡ Some 0

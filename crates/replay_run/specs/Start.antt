@@ -21,6 +21,6 @@ new_clients before homes = map (λ placed. new_client before placed.0 placed.1) 
 abbrev pub world_of : Tally → {M : Type 0} → Store Value M → PrefWorld
 world_of tally s = record { told = true; folder = fresh_contents s.main; sections = s.sections; owner = None; history = []; deaths = s.deaths; version = 0; tally = tally }
 
--- the state in which it starts with clients of these nodes
+-- the state in which it starts with clients of these nodes; no cache keeps anything
 abbrev pub start_of : (before : List Asked) → Tally → {M : Type 0} → Store Value M → List NodeId → RunState
-start_of before tally s homes = record { shared = record { world = world_of tally s }; clients = new_clients before homes }
+start_of before tally s homes = record { shared = record { world = world_of tally s; caches = map (λ node. None) s.nodes }; clients = new_clients before homes }

@@ -1,9 +1,9 @@
 -- What the types of keys and of values promise of the edits of a script.
 use Rattle.std.specs.Prelude.{All}
 use Rattle.prefs_edit.specs.Laws.{IsStep}
-use Rattle.script_lang.specs.declared.run_line.Act.{Act}
-use Rattle.script_lang.specs.declared.run_line.Act.TheVariants as act
-use Rattle.script_lang.specs.declared.script.Script.{Script}
+use Rattle.script_lang.specs.declared.plan.run_line.Act.{Act}
+use Rattle.script_lang.specs.declared.plan.run_line.Act.TheVariants as act
+use Rattle.script_lang.specs.declared.plan.script.Script.{Script}
 use Rattle.replay_run.specs.Settings.{Change}
 
 abbrev pub AreSteps : Change → Type 0

@@ -1,25 +1,30 @@
--- How many turns the clients have left at most, where none of them is blocked.
-use Rattle.std.specs.Prelude.{◌≡◌, ◌⊎◌, ◌≤◌, ◌<◌, ℕ, ◌+◌, ◌-◌, ◌*◌, false, Option, Some, length, slice_get, sum_by}
+-- How many steps the clients have left at most, where none of them is blocked.
+use Rattle.std.specs.Prelude.{◌≡◌, ◌⊎◌, ◌≤◌, ◌<◌, ℕ, ◌+◌, ◌-◌, ◌*◌, false, Option, Some, is_some, length, slice_get, sum_by, if◌then◌else◌}
 use Rattle.store_traits.specs.declared.ids.CallId.{CallId}
 use Rattle.hist_journal.specs.Nodes.{is_ready}
 use Rattle.node_core.specs.Phases.{is_holding}
 use Rattle.node_core.specs.StepsLeft.{steps_left}
-use Rattle.script_lang.specs.declared.run_line.Act.{Act}
-use Rattle.script_lang.specs.declared.run_line.Act.TheVariants as act
+use Rattle.step_table.specs.Calls.{Read, Update}
+use Rattle.script_lang.specs.declared.plan.run_line.Act.{Act}
+use Rattle.script_lang.specs.declared.plan.run_line.Act.TheVariants as act
 use Rattle.replay_run.specs.RunState.{Client, RunState, act_now, call_now, is_busy}
 use Rattle.replay_run.specs.Settings.{PrefCall, PrefWorld}
 
 -- `limit` is how many bytes main may have
 module _ (limit : ℕ) where
   module _ (w : PrefWorld) where
-    -- those of the call that the client is at
+    abbrev pub turns_left : Client → PrefCall → ℕ
+    turns_left client call = steps_left limit (is_ready client.node w.history) call.at
+
+    -- those of the call that the client is at; the look of a read is one more
     abbrev pub call_left : Option Act → Client → ℕ
-    call_left (Some (act.Update edit)) client = steps_left limit (is_ready client.node w.history) (call_now client edit).at
+    call_left (Some (act.Update edit)) client = turns_left client (call_now client (Update edit))
+    call_left (Some act.Read) client = turns_left client (call_now client Read) + (if is_some client.running then 0 else 1)
     call_left other client = 0
 
-    -- a call behind it has as many as one at its first step
+    -- a call behind it has as many as a read that has not looked
     abbrev pub client_left : Client → ℕ
-    client_left client = call_left (act_now client) client + (length client.asked - length client.answered - 1) * (limit + 11)
+    client_left client = call_left (act_now client) client + (length client.asked - length client.answered - 1) * (limit + 12)
 
   abbrev pub work_left : RunState → ℕ
   work_left state = sum_by (client_left state.shared.world) state.clients

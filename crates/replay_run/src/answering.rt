@@ -1,33 +1,30 @@
-ghost use Rattle.std.specs.Prelude.{◌≡◌, Some, IfOk};
+ghost use Rattle.std.specs.Prelude.{◌≡◌, Some, None, IfOk, OnErr};
 ghost use Rattle.prefs_text.specs.AnswerView.{answer_seen};
-ghost use Rattle.step_table.specs.Calls.{reply_of};
-ghost use Rattle.replay_run.specs.Answering.{error_told};
-ghost use Rattle.replay_run.specs.ClientSteps.{AnswersBy};
+ghost use Rattle.replay_run.specs.Answering.{error_told, reply_told};
+ghost use Rattle.replay_run.specs.RunningSteps.{reply_seen};
 
-use prefs_text::{Answer, AnswerLine};
+use crate::running::Reply;
+use node_core::as_update_error;
+use prefs_text::Answer;
 use std::alloc::AllocError;
-use store_traits::{CallId, UpdateError};
+use store_traits::UpdateError;
 
-/// The line of a client's call that was answered so. Want of memory has none, and is told as what it is.
-pub(crate) fn line_of(
-    call: CallId,
-    answer: Result<u64, UpdateError>,
-) -> Result<AnswerLine, AllocError>
-    ensures { IfOk result (AnswersBy call (reply_of answer)) }
+/// How a reply is told. Want of memory has no line, and is told as what it is.
+pub(crate) fn answer_of(reply: Reply) -> Result<Answer, AllocError>
+    ensures told { IfOk result (λ answer. reply_told (reply_seen reply) ≡ Some (answer_seen answer)) }
+    ensures refused { OnErr result (reply_told (reply_seen reply) ≡ None) }
 {
-    let answer = match answer {
-        Ok(edition) => Answer::Updated(edition),
-        Err(error) => answer_of(error)?,
-    };
-    Ok(AnswerLine {
-        call,
-        poster: None,
-        answer,
-    })
+    match reply {
+        Reply::Updated(Ok(edition)) => Ok(Answer::Updated(edition)),
+        Reply::Updated(Err(error)) => answer_of_error(error),
+        Reply::Gave(Ok(given)) => Ok(Answer::Read(given)),
+        Reply::Gave(Err(error)) => answer_of_error(as_update_error(error)),
+    }
 }
 
-fn answer_of(error: UpdateError) -> Result<Answer, AllocError>
-    ensures { IfOk result (λ answer. error_told error ≡ Some (answer_seen answer)) }
+fn answer_of_error(error: UpdateError) -> Result<Answer, AllocError>
+    ensures told { IfOk result (λ answer. error_told error ≡ Some (answer_seen answer)) }
+    ensures refused { OnErr result (error_told error ≡ None) }
 {
     match error {
         UpdateError::Refused { code, edition } => Ok(Answer::Refused(code, edition)),

@@ -2,8 +2,8 @@
 ghost use Rattle.std.specs.Prelude.{◌≡◌};
 ghost use Rattle.folder_disk.specs.Tally.{Tally};
 ghost use Rattle.step_table.specs.World.{Begins};
-ghost use Rattle.script_lang.specs.declared.script.Script.{Script};
-ghost use Rattle.script_lang.specs.declared.transcript.Transcript.{Transcript};
+ghost use Rattle.script_lang.specs.declared.plan.script.Script.{Script};
+ghost use Rattle.script_lang.specs.declared.transcripts.transcript.Transcript.{Transcript};
 ghost use Rattle.script_lang.specs.Good.{Good};
 ghost use Rattle.script_lang.specs.Keeps.{Keeps};
 ghost use Rattle.script_lang.specs.TruthTests.{ReadingTests, TruthTests};

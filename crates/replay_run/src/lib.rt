@@ -10,7 +10,9 @@ mod main_file;
 mod names;
 mod prefs_parts;
 mod replaying;
+mod running;
 mod running_session;
+mod task;
 
 pub use laws::{
     runs_are_good, runs_start_as_sessions_begin, scripts_have_a_run, scripts_have_one_run,

@@ -1,5 +1,5 @@
 -- Each script that keeps its rules has a run.
-use Rattle.std.proofs.Common.{◌≡◌, ◌∙◌, ◌⊎◌, inl, inr, ◌<◌, ◌+◌, ◌-◌, ◌^◌, ℕ, suc, zero, List, All, [], ◌∷◌, length, flat_map, Option, Some, None, slice_get, refl, sym, ap, subst, arith}
+use Rattle.std.proofs.Common.{◌≡◌, ◌∙◌, ◌⊎◌, inl, inr, ◌<◌, ◌+◌, ◌-◌, ◌^◌, ℕ, suc, zero, List, All, [], ◌∷◌, length, flat_map, Option, Some, None, IfSome, slice_get, refl, sym, ap, subst, arith}
 use Rattle.std.specs.List.{enumerate_from}
 use Rattle.std.proofs.lemmas.List.{length-map}
 use Rattle.std.proofs.lemmas.List.Elements.{All-append, All-cons, All-head, All-nil}
@@ -12,97 +12,109 @@ use Rattle.shelf.specs.declared.store.Store.{Store}
 use Rattle.shelf.specs.Base.{HasItsBase}
 use Rattle.shelf.specs.Each.{Each}
 use Rattle.shelf.proofs.EachLemmas.{each_walked}
-use Rattle.script_lang.specs.declared.file_seen.FileSeen.TheVariants.{Absent}
-use Rattle.script_lang.specs.declared.run_line.Act.{Act}
-use Rattle.script_lang.specs.declared.run_line.Act.TheVariants as act
-use Rattle.script_lang.specs.declared.run_line.RunLine.{RunLine}
-use Rattle.script_lang.specs.declared.script.Script.{Script}
-use Rattle.script_lang.specs.declared.session_plan.SessionPlan.{SessionPlan}
-use Rattle.script_lang.specs.declared.transcript.Transcript.{Transcript}
+use Rattle.script_lang.specs.declared.transcripts.file_seen.FileSeen.TheVariants.{Absent}
+use Rattle.script_lang.specs.declared.plan.run_line.Act.{Act}
+use Rattle.script_lang.specs.declared.plan.run_line.RunLine.{RunLine}
+use Rattle.script_lang.specs.declared.plan.script.Script.{Script}
+use Rattle.script_lang.specs.declared.plan.session_plan.SessionPlan.{SessionPlan}
+use Rattle.script_lang.specs.declared.transcripts.transcript.Transcript.{Transcript}
 use Rattle.script_lang.specs.Chronicle.{Chapter, chapter_of, first_beginning, store_of, tally_of}
 use Rattle.script_lang.specs.Good.{file_seen}
 use Rattle.script_lang.specs.Keeps.{IsPlain, Keeps, KeepsPlan}
 use Rattle.script_lang.specs.TranscriptView.{SessionSeen}
 use Rattle.script_lang.proofs.GoodChapters.{one_chapter}
+use Rattle.step_table.specs.Calls.{Read, Update}
 use Rattle.replay_run.specs.Lines.{Asks, FollowsAll}
 use Rattle.replay_run.specs.PrefsBasis.{prefs_basis}
 use Rattle.replay_run.specs.Rounds.{EndsBy, Finishes, IsOver, Round, StepsEach}
-use Rattle.replay_run.specs.RunState.{Client, RunState, act_now}
+use Rattle.replay_run.specs.RunState.{Client, NodeView, RunState, act_now, act_of}
 use Rattle.replay_run.specs.ScriptRun.{IsPlayed, Runs, lines_of}
-use Rattle.replay_run.specs.Settings.{Change, PrefRules, PrefStore, Value}
+use Rattle.replay_run.specs.Settings.{PrefAsk, PrefRules, PrefStore, Value}
 use Rattle.replay_run.specs.Start.{new_client, start_of, world_of}
-use Rattle.replay_run.specs.Steps.{StepsAt, StepsBy}
+use Rattle.replay_run.specs.Steps.{StepsAt}
 use Rattle.replay_run.specs.Typed.{AreSteps, IsTyped, IsTypedAct}
 use Rattle.replay_run.specs.WorkLeft.{RoundSoFar, work_left}
 use Rattle.replay_run.proofs.exists.ChainExists.{CanFollow, lines_is, rounds_is}
-use Rattle.replay_run.proofs.exists.StepExists.{update_steps}
+use Rattle.replay_run.proofs.exists.ServedSteps.{RunsServed, still_served}
+use Rattle.replay_run.proofs.exists.StepExists.{IsOfAsk, client_steps}
 use Rattle.replay_run.proofs.exists.TurnExists.{MustBe, base_is}
-use Rattle.replay_run.proofs.keeping.BehindTurns.{behind, behind_same}
 use Rattle.replay_run.proofs.keeping.Peaceful.{is_peaceful}
-use Rattle.replay_run.proofs.keeping.StepsKeep.{new_from}
+use Rattle.replay_run.proofs.keeping.SameClients.{still_that}
+use Rattle.replay_run.proofs.keeping.StepsKeep.{homes_declared, new_from}
 use Rattle.replay_run.proofs.kept.PlansKept.{ReadsValues}
 use Rattle.replay_run.proofs.kept.RunKept.{KeptState, asks_keep_main, start_keeps_main, steps_keep_main, values_of_settings}
-use Rattle.replay_run.proofs.lists.SetLemmas.{found_then, set_same}
+use Rattle.replay_run.proofs.lists.SetLemmas.{found_then}
 use Rattle.replay_run.proofs.lists.SetViews.{all_found}
 use Rattle.replay_run.proofs.work.WorkLemmas.{round_begins, round_falls, round_goes_on}
 
-abbrev IsUpdate : Act → Type 0
-IsUpdate (act.Update edit) = Unit {0}
-IsUpdate other = ⊥
+asks : (ask : PrefAsk) → IsOfAsk (act_of ask)
+asks (Update edit) = tt
+asks Read = tt
 
--- a step asks its client for nothing more
-asked_same : (r : PrefRules) {M : Type 0} (s : Store Value M) (place : ℕ) (old new : RunState) (it : StepsAt r s place old new) → it.client_after.asked ≡ it.client.asked
-asked_same r s place old new it = by_act (act_now it.client) it.steps
-  where
-    by_act : (asked : Option Act) → StepsBy r s asked it.client old.shared it.client_after new.shared → it.client_after.asked ≡ it.client.asked
-    by_act None rests = ap (λ (c : Client). c.asked) rests.0
-    by_act (Some (act.Update edit)) turn = (behind_same turn.gave it.client_after (behind it.client turn.call_after turn.gave it.client_after turn.now)).asked
-    by_act (Some other) none = absurd none
+-- what it is at is among what it is asked for
+now_asked : (client : Client) (asked : Option Act) → act_now client ≡ asked → All IsOfAsk client.asked → IfSome asked IsOfAsk
+now_asked client None is all = tt
+now_asked client (Some a) is all = all_found IsOfAsk client.asked (length client.answered) a is all
+
+-- a client is asked for calls alone, and what runs of them is at a step that the table serves
+pub record IsServed (client : Client) : Type 0 where
+  pub asks : All IsOfAsk client.asked
+  pub runs : RunsServed client
 
 module _ {M : Type 0} (r : PrefRules) (s : Store Value M) (values : ReadsValues r IsMap AreSteps s) (unplanned : s.deaths ≡ []) (most : s.folder.most ≡ Some 0) (unmigrated : s.migrations ≡ []) (unreplaced : s.handler ≡ None) (low : s.limits.file < 2 ^ 64 - 1) where
-  -- what is kept, of clients that are asked for updates alone
   record Kept (state : RunState) : Type 0 where
     pub main : KeptState r s state
-    pub updates : (place : ℕ) (client : Client) → slice_get state.clients place ≡ Some client → All IsUpdate client.asked
+    pub clients : (place : ℕ) (client : Client) → slice_get state.clients place ≡ Some client → IsServed client
 
   step_is : (place : ℕ) (state : RunState) → place < length state.clients → Kept state → MustBe (StepsAt r s place state)
   step_is place state within kept none =
       elim (slice_get_cases state.clients place).1 [
-        | inl found ↦ by_act found.0 found.2 (act_now found.0) refl
+        | inl found ↦ by_cache found.0 found.2
         | inr past ↦ (let less = past.0 in absurd (omega (arith, less, within)))
       ]
     where
-      by_act : (client : Client) → slice_get state.clients place ≡ Some client → (asked : Option Act) → act_now client ≡ asked → ⊥
-      by_act client found None is =
-          none state (record { client = client; client_after = client; was = found; steps = rw is (refl, refl); now = sym (set_same state.clients place client found) })
-      by_act client found (Some (act.Update edit)) is =
+      by_cache : (client : Client) → slice_get state.clients place ≡ Some client → ⊥
+      by_cache client found =
           let peace = is_peaceful s unplanned most r state kept.main.run in
           let count = peace.count in
-          update_steps r s unmigrated unreplaced low state peace.alive peace.deaths (λ call. rw (peace.planned, peace.fuses) refl) (omega (arith, count)) place client found edit is
-          (kept.main.run.clients place client found).running none
-      by_act client found (Some other) is = absurd (all_found IsUpdate client.asked (length client.answered) other is (kept.updates place client found))
+          let served = kept.clients place client found in
+          let home = all_found (λ (client : Client). client.node.0 < length state.shared.caches) state.clients place client found kept.main.run.homes in
+          elim (slice_get_cases state.shared.caches client.node.0).1 [
+            | inl cache ↦ client_steps r s unmigrated unreplaced low state peace.alive peace.deaths (λ call. rw (peace.planned, peace.fuses) refl) (omega (arith, count)) place client found cache.0 cache.2
+                (act_now client) refl (now_asked client (act_now client) refl served.asks) served.runs none
+            | inr past ↦ (let less = past.0 in absurd (omega (arith, less, home)))
+          ]
 
   step_keeps : (place : ℕ) (old new : RunState) → StepsAt r s place old new → Kept old → Kept new
   step_keeps place old new it kept =
+      let was = kept.clients place it.client it.was in
+      let view : NodeView = record { world = old.shared.world; kept = it.kept } in
+      let view_after : NodeView = record { world = new.shared.world; kept = it.kept_after } in
       record {
         main = steps_keep_main r s values unplanned most place old new it kept.main;
-        updates =
+        clients =
             λ other c is.
             elim (found_then old.clients place other it.client_after c (rw it.now at is)) [
-              | inl here ↦ rw (here.1, asked_same r s place old new it) (kept.updates place it.client it.was)
-              | inr there ↦ kept.updates other c there.1
+              | inl here ↦ rw here.1
+                  (record {
+                    asks = rw (still_that r s it.client view it.client_after view_after it.steps).asked was.asks;
+                    runs = still_served r s it.client view it.client_after view_after was.runs it.steps;
+                  })
+              | inr there ↦ kept.clients other c there.1
             ];
       }
 
-  asking_keeps : (place : ℕ) (edit : Change) (old new : RunState) → Asks place (act.Update edit) old new → IsTypedAct (act.Update edit) → Kept old → Kept new
-  asking_keeps place edit old new it typed kept =
+  asking_keeps : (place : ℕ) (ask : PrefAsk) (old new : RunState) → Asks place (act_of ask) old new → IsTypedAct (act_of ask) → Kept old → Kept new
+  asking_keeps place ask old new it typed kept =
+      let was = kept.clients place it.client it.was in
       record {
-        main = asks_keep_main r s place (act.Update edit) old new it typed kept.main;
-        updates =
+        main = asks_keep_main r s place (act_of ask) old new it typed kept.main;
+        clients =
             λ other c is.
             elim (found_then old.clients place other _ c (rw it.now at is)) [
-              | inl here ↦ rw here.1 (All-append IsUpdate it.client.asked (act.Update edit ∷ []) (kept.updates place it.client it.was) (All-cons IsUpdate (act.Update edit) [] tt (All-nil IsUpdate)))
-              | inr there ↦ kept.updates other c there.1
+              | inl here ↦ rw here.1
+                  (record { asks = All-append IsOfAsk it.client.asked (act_of ask ∷ []) was.asks (All-cons IsOfAsk (act_of ask) [] (asks ask) (All-nil IsOfAsk)); runs = was.runs })
+              | inr there ↦ kept.clients other c there.1
             ];
       }
 
@@ -126,10 +138,10 @@ module _ {M : Type 0} (r : PrefRules) (s : Store Value M) (values : ReadsValues 
     pub follows : FollowsAll r s lines start between
     pub finishes : Finishes r s between end
 
-  pub session_is : (lines : List RunLine) (start : RunState) → All (CanFollow (length start.clients)) lines → KeptState r s start → ((place : ℕ) (client : Client) → slice_get start.clients place ≡ Some client → client.asked ≡ [])
+  pub session_is : (lines : List RunLine) (start : RunState) → All (CanFollow (length start.clients)) lines → KeptState r s start → ((place : ℕ) (client : Client) → slice_get start.clients place ≡ Some client → IsServed client)
       → MustBe (Ended lines start)
-  session_is lines start can kept unasked none =
-      lines_is r s Kept step_is step_keeps asking_keeps lines start can (record { main = kept; updates = λ place client found. rw (unasked place client found) (All-nil IsUpdate) })
+  session_is lines start can kept served none =
+      lines_is r s Kept step_is step_keeps asking_keeps lines start can (record { main = kept; clients = served })
       (λ between follows.
       rounds_is r s Kept step_is step_keeps asking_keeps (work_left s.limits.file) falls (work_left s.limits.file between) between (omega arith) follows.on.kept
       (λ end finishes. none end (record { between = between; follows = follows.goes; finishes = finishes.goes })))
@@ -146,7 +158,7 @@ module _ (script : Script) (kept : Keeps script) (typed : IsTyped script) where
   told_of base end = record { base = base; answers = flat_map lines_of end.clients; entries = end.shared.world.history; file = file_seen prefs_basis.file_limit end.shared.world.folder.main }
 
   abbrev nothing_yet : RunState
-  nothing_yet = record { shared = record { world = world_of (tally_of 0 plan) (store_of prefs_basis script (first_beginning script) plan (record { base = Corrupt; answers = []; entries = []; file = Absent })) }; clients = [] }
+  nothing_yet = record { shared = record { world = world_of (tally_of 0 plan) (store_of prefs_basis script (first_beginning script) plan (record { base = Corrupt; answers = []; entries = []; file = Absent })); caches = [] }; clients = [] }
 
   abbrev chapter : SessionSeen → Chapter
   chapter told = chapter_of prefs_basis script (first_beginning script) [] plan told
@@ -176,11 +188,11 @@ module _ (script : Script) (kept : Keeps script) (typed : IsTyped script) where
     most = rw plain refl
 
     kept_start : KeptState prefs_basis.rules (store base) (start base)
-    kept_start = start_keeps_main prefs_basis.rules (store base) reads most [] (tally_of 0 plan) script.homes refl refl
+    kept_start = start_keeps_main prefs_basis.rules (store base) reads most [] (tally_of 0 plan) script.homes refl refl (homes_declared script kept.homes.declared)
 
     ended_is : MustBe (Ended prefs_basis.rules (store base) (values_of_settings (store base) omega arith) (ap (λ (p : SessionPlan). p.deaths) plain) most refl (rw kept.built.unreplaced refl) (omega arith) plan.lines (start base))
     ended_is = session_is prefs_basis.rules (store base) (values_of_settings (store base) omega arith) (ap (λ (p : SessionPlan). p.deaths) plain) most refl (rw kept.built.unreplaced refl) (omega arith) plan.lines (start base) (can_follow base) kept_start
-        (λ place client found. ap (λ (c : Client). c.asked) (new_from [] 0 script.homes place client found).is)
+        (λ place client found. rw (new_from [] 0 script.homes place client found).is (record { asks = All-nil IsOfAsk; runs = tt }))
 
   -- it cannot be that there is no run
   pub run_is : MustBe (Runs prefs_basis script)

@@ -4,7 +4,7 @@ use Rattle.std.proofs.lemmas.Bool.Decides.{nat_tests}
 use Rattle.store_traits.specs.declared.applied.Applied.{Applied}
 use Rattle.store_traits.specs.declared.applied.Applied.TheVariants as applied
 use Rattle.store_traits.specs.declared.ids.CallId.{CallId}
-use Rattle.store_traits.specs.declared.update_error.UpdateError.TheVariants.{HistoryFull, NoMemory, ValueTooLong}
+use Rattle.store_traits.specs.declared.update_error.UpdateError.TheVariants.{NoMemory, ValueTooLong}
 use Rattle.folder_disk.specs.declared.call.FolderCall.{FolderCall}
 use Rattle.folder_disk.specs.Due as plan
 use Rattle.hist_journal.specs.declared.seen.BaseSeen.{BaseSeen}
@@ -12,14 +12,14 @@ use Rattle.hist_journal.specs.declared.seen.BaseSeen.TheVariants.{Held, Corrupt,
 use Rattle.hist_journal.specs.Nodes.{is_ready}
 use Rattle.shelf.specs.declared.store.Store.{Store}
 use Rattle.shelf.specs.Base.{ReadsAs}
-use Rattle.shelf.specs.Rules.{Rules, weight_at}
+use Rattle.shelf.specs.Rules.{Rules}
 use Rattle.shelf.proofs.Bools.{never}
-use Rattle.step_table.specs.Calls.{Ask, Update, Read, At, Call, First, Reading, Migrating, Finishing, Raising, Writing, SyncingFolder, Kept, Failed, Gave, Purpose, Initialise, Serve, Stage, Creating, Appending, SyncingScratch, Renaming, is_gone}
-use Rattle.step_table.specs.Effects.{Effect, Ends, Faulted, FolderUse, Goes, Next, Served, Takes, Unused, Waits, does, errs, gave_by, goes}
+use Rattle.step_table.specs.Calls.{Ask, Update, Read, At, Call, First, Reading, Migrating, Finishing, Raising, Writing, SyncingFolder, Kept, Failed, Gone, Purpose, Initialise, Serve, ServeUnlocked, Stage, Creating, Appending, SyncingScratch, Renaming, is_gone}
+use Rattle.step_table.specs.Effects.{Effect, Ends, Faulted, FolderUse, Next, Served, Unused, errs, gave_by, goes}
 use Rattle.step_table.specs.Requests.{call_of}
 use Rattle.step_table.specs.Turn.{AllowedBy, Turn, dies_now, has_died_by}
 use Rattle.step_table.specs.World.{World, Turned, begin}
-use Rattle.step_table.proofs.Chosen.{IsSame, IsSameFor, Luck, Meets, apply, chosen, is_faulted, is_open, is_other, length_of, unwritten, use_base, write}
+use Rattle.step_table.proofs.Chosen.{IsSame, IsSameFor, Luck, Meets, apply, chosen, enter, has_to_lock, is_faulted, is_open, is_other, length_of, meet, take, unwritten, use_base, write}
 use Rattle.step_table.proofs.ChosenRows.{chosen_row, is_served}
 use Rattle.step_table.proofs.Choosing.{Reads}
 use Rattle.step_table.proofs.EffectsMade.{comes_by, is_as_due, turn_to, turned_by}
@@ -29,10 +29,9 @@ abbrev pub MustBe : {X : Type 0} → (X → Type 0) → Type 0
 MustBe {X} Is = ((x : X) → Is x → ⊥) → ⊥
 
 module _ {V T : Type 0} where
-  -- an update that ends so has an answer in a transcript
+  -- a call that ends so has an answer in a transcript
   abbrev pub is_answer : Next V T → Bool
   is_answer (Ends (Failed NoMemory)) = false
-  is_answer (Ends (Gave edition value)) = false
   is_answer other = true
 
   -- the effect answers, and no call of the folder fails
@@ -62,6 +61,7 @@ module _ {V T M : Type 0} (r : Rules V T) (s : Store V M) (w : World V T) where
   same_for_is (Held value) Serve (Update edit) none = same_is (r.meanings.after edit value) value none
   same_for_is (Held value) Serve Read none = none false refl
   same_for_is (Held value) Initialise ask none = none false refl
+  same_for_is (Held value) ServeUnlocked ask none = none false refl
   same_for_is Corrupt purpose ask none = none false refl
   same_for_is (TooLong len) purpose ask none = none false refl
 
@@ -94,6 +94,8 @@ module _ {V T M : Type 0} (r : Rules V T) (s : Store V M) (w : World V T) where
       base_answers (Held value) Initialise ask = refl
       base_answers (Held value) Serve (Update edit) = applies edit value (r.meanings.after edit value)
       base_answers (Held value) Serve Read = refl
+      base_answers (Held value) ServeUnlocked (Update edit) = refl
+      base_answers (Held value) ServeUnlocked Read = refl
       base_answers Corrupt purpose ask = refl
       base_answers (TooLong len) purpose ask = refl
 
@@ -103,17 +105,21 @@ module _ {V T M : Type 0} (r : Rules V T) (s : Store V M) (w : World V T) where
       writes SyncingScratch p = (refl, refl)
       writes Renaming p = (refl, refl)
 
-      takes_by : (ask : Ask T) (other open_now ready : Bool) → IsFine {V = V} {T = T}
-          (if other then does Waits
-          else if open_now then (if ready then does (Goes Takes (Reading Serve ask)) else does (Goes Takes (Reading Initialise ask)))
-          else errs (HistoryFull (length w.history) (weight_at r w.history)))
-      takes_by ask true open_now ready = (refl, refl)
-      takes_by ask false true true = (refl, refl)
-      takes_by ask false true false = (refl, refl)
-      takes_by ask false false ready = (refl, refl)
+      either : (b : Bool) (x y : Effect V T) → IsFine x → IsFine y → IsFine (if b then x else y)
+      either true x y one other = one
+      either false x y one other = other
+
+      enters : (ask : Ask T) → IsFine (enter r s.limits w call luck ask)
+      enters ask = either (is_ready call.node w.history) _ _ (refl, refl) (refl, refl)
+
+      takes : (ask : Ask T) → IsFine (take r s.limits w call luck ask)
+      takes ask = either (has_to_lock r s.limits w call luck ask) _ _ (either (is_open r s.limits w call luck) _ _ (enters ask) (refl, refl)) (enters ask)
+
+      meets : (ask : Ask T) → IsFine (meet r s.limits w call luck ask)
+      meets ask = either (has_to_lock r s.limits w call luck ask) _ _ (refl, refl) (refl, refl)
 
       fine : (at : At V T) → IsFine (chosen r s.limits w call luck at)
-      fine (First ask) = takes_by ask (is_other w.owner call) (is_open r s.limits w call luck) (is_ready call.node w.history)
+      fine (First ask) = either (is_other w.owner call) _ _ (meets ask) (takes ask)
       fine (Reading purpose ask) = rw well (base_answers luck.base purpose ask, refl)
       fine (Migrating ask value) = (refl, refl)
       fine (Finishing ask) = (refl, refl)
@@ -122,7 +128,7 @@ module _ {V T M : Type 0} (r : Rules V T) (s : Store V M) (w : World V T) where
       fine (SyncingFolder ending) = rw well (refl, refl)
       fine other = (refl, refl)
 
-  module _ (none : s.migrations ≡ []) (unreplaced : s.handler ≡ None) (low : s.limits.file < 2 ^ 64 - 1) (call : Call V T) (goes_on : is_gone call.at ≡ false) (served : is_served call.at ≡ true)
+  module _ (none : s.migrations ≡ []) (unreplaced : s.handler ≡ None) (low : s.limits.file < 2 ^ 64 - 1) (call : Call V T) (served : is_served call.at ≡ true)
       (calm : (asked : FolderCall) → plan.fails asked w.tally.due ≡ false) (few : w.tally.count < 2 ^ 64 - 1) where
     -- an effect that the call's turn may have
     pub record Turns (e : Effect V T) : Type 0 where
@@ -134,6 +140,10 @@ module _ {V T M : Type 0} (r : Rules V T) (s : Store V M) (w : World V T) where
     as_due Unused well = refl
     as_due (Served request) well = rw (calm (call_of request)) grind (arith, nat_tests, few)
     as_due (Faulted request) well = never (sym well)
+
+    goes_on : (at : At V T) → is_served at ≡ true → is_gone at ≡ false
+    goes_on Gone is = never is
+    goes_on other is = refl
 
     allowed : (gone died dies : Bool) (t : Turned V T) (e : Effect V T) → gone ≡ false → died ≡ false → dies ≡ false → AllowedBy r s false false false t e → AllowedBy r s gone died dies t e
     allowed gone died dies t e first second third it = rw (first, second, third) it
@@ -149,7 +159,7 @@ module _ {V T M : Type 0} (r : Rules V T) (s : Store V M) (w : World V T) where
           turn =
               record {
                 effect = e;
-                allowed = allowed (is_gone call.at) (has_died_by (turn_to w (begun w call) w)) (dies_now (turn_to w (begun w call) w)) (turned_by w (begun w call) e) e goes_on lives spared
+                allowed = allowed (is_gone call.at) (has_died_by (turn_to w (begun w call) w)) (dies_now (turn_to w (begun w call) w)) (turned_by w (begun w call) e) e (goes_on call.at served) lives spared
                     (chosen_row r s w call.id luck low none (λ is. unreplaced) call.at served met.meets);
                 comes = comes_by w (begun w call) e.folder e (as_due e.folder fits.1);
               };

@@ -8,6 +8,8 @@ use Rattle.std.proofs.lemmas.List.Elements.{All-head, All-tail}
 use Rattle.std.proofs.lemmas.Option.{slice_get_cases, slice_get_within}
 use Rattle.store_traits.specs.declared.ids.CallId.{CallId}
 use Rattle.store_traits.specs.declared.ids.ClientId.{ClientId}
+use Rattle.store_traits.specs.declared.read_error.ReadError.{ReadError}
+use Rattle.store_traits.specs.declared.read_error.ReadError.TheVariants as read
 use Rattle.store_traits.specs.declared.update_error.UpdateError.{UpdateError}
 use Rattle.store_traits.specs.declared.update_error.UpdateError.TheVariants as error
 use Rattle.hist_journal.specs.Folds.{edition_of}
@@ -18,16 +20,17 @@ use Rattle.prefs_text.specs.declared.seen.AnswerLineSeen.{AnswerLineSeen}
 use Rattle.prefs_text.specs.declared.seen.AnswerSeen.{AnswerSeen}
 use Rattle.prefs_text.specs.declared.seen.AnswerSeen.TheVariants as seen
 use Rattle.shelf.specs.declared.store.Store.{Store}
-use Rattle.shelf.specs.Causes.{HasCause}
+use Rattle.shelf.specs.Causes.{HasCause, HasReadCause}
 use Rattle.shelf.specs.Each.{Each}
 use Rattle.shelf.specs.Entries.{is_update}
 use Rattle.shelf.specs.Places.{is_up_to}
-use Rattle.shelf.proofs.CauseLemmas.{HasCause-more, IsUpdated-more, none_up_to}
+use Rattle.shelf.proofs.CauseLemmas.{HasCause-more, HasFront-more, HasReadCause-more, IsUpdated-more, none_up_to}
 use Rattle.shelf.proofs.MeanwhileLemmas as meanwhile
-use Rattle.script_lang.specs.AnswerForms.{update_error}
+use Rattle.script_lang.specs.AnswerForms.{read_error, update_error}
 use Rattle.script_lang.specs.Shown.{edition_up_to, shown_by, shown_to}
-use Rattle.script_lang.specs.declared.run_line.Act.{Act}
-use Rattle.script_lang.specs.declared.run_line.Act.TheVariants as act
+use Rattle.script_lang.specs.GoodReads.{HasValue}
+use Rattle.script_lang.specs.declared.plan.run_line.Act.{Act}
+use Rattle.script_lang.specs.declared.plan.run_line.Act.TheVariants as act
 use Rattle.replay_run.specs.ClientInvariant.{IsExplained, IsTrueAnswer}
 use Rattle.replay_run.specs.RunState.{Client, call_at}
 use Rattle.replay_run.specs.Settings.{Change, PrefRules, Value}
@@ -79,6 +82,11 @@ module _ (r : PrefRules) {M : Type 0} (s : Store Value M) where
       record { front = it.front; back = it.back; is = it.is; holds = record { fresh = omega (arith, within, it.holds.fresh); holds = it.holds.holds } }
   cause_of_less less shown call edit other list within it = it
 
+  pub read_cause_of_less : (less shown : ℕ) (call : CallId) (err : ReadError) (list : List PrefEntry) → less ≤ shown → HasReadCause r s shown call err list → HasReadCause r s less call err list
+  read_cause_of_less less shown call (read.ValueTooLong len) list within it =
+      record { front = it.front; back = it.back; is = it.is; holds = record { fresh = omega (arith, within, it.holds.fresh); holds = it.holds.holds } }
+  read_cause_of_less less shown call other list within it = it
+
   module _ (list : List PrefEntry) (shown : ℕ) (call : CallId) where
     -- no answer shows more than the history has
     explained_within : (asked : Act) (answer : AnswerSeen) → IsExplained r s list shown call asked answer → unwrap_or (shown_by list answer) 0 ≤ edition_of list
@@ -96,6 +104,16 @@ module _ (r : PrefRules) {M : Type 0} (s : Store Value M) where
     explained_within (act.Update edit) (seen.Unchanged edition) it = absurd it
     explained_within (act.Update edit) (seen.Restarted place) it = absurd it
     explained_within (act.Update edit) other it = omega arith
+    explained_within act.Read (seen.Read edition value) it = rw (← it.holds.reached) (front_edition list it.front it.back it.is)
+    explained_within act.Read (seen.StorageFault place) it = up_to_within place list
+    explained_within act.Read (seen.NotDurable place) it = up_to_within place list
+    explained_within act.Read (seen.LegacyFault place) it = up_to_within place list
+    explained_within act.Read (seen.Updated edition) it = absurd it
+    explained_within act.Read (seen.Refused code edition) it = absurd it
+    explained_within act.Read (seen.Flow edition value) it = absurd it
+    explained_within act.Read (seen.Unchanged edition) it = absurd it
+    explained_within act.Read (seen.Restarted place) it = absurd it
+    explained_within act.Read other it = omega arith
     explained_within other answer it = absurd it
 
     module _ (more : List PrefEntry) where
@@ -110,6 +128,11 @@ module _ (r : PrefRules) {M : Type 0} (s : Store Value M) where
       shown_more (act.Update edit) (seen.LegacyFault place) it = up_to_more it.before it.behind it.entry place list more it.is it.counted
       shown_more (act.Update edit) (seen.Restarted place) it = absurd it
       shown_more (act.Update edit) other it = refl
+      shown_more act.Read (seen.StorageFault place) it = let fault = it.fault in up_to_more fault.before fault.behind fault.entry place list more fault.is fault.counted
+      shown_more act.Read (seen.NotDurable place) it = let failed = it.failed in up_to_more failed.before (failed.between ++ failed.second ∷ failed.behind) failed.first place list more failed.is it.counted
+      shown_more act.Read (seen.LegacyFault place) it = up_to_more it.before it.behind it.entry place list more it.is it.counted
+      shown_more act.Read (seen.Restarted place) it = absurd it
+      shown_more act.Read other it = refl
       shown_more other answer it = absurd it
 
       module _ (over : list_any (is_up_to call) more ≡ false) where
@@ -117,9 +140,15 @@ module _ (r : PrefRules) {M : Type 0} (s : Store Value M) where
         error_more edit None it = it
         error_more edit (Some err) it = HasCause-more r s call list more over shown edit err it
 
+        read_error_more : (err : Option ReadError) → MatchOption err ⊥ (λ err. HasReadCause r s shown call err list) → MatchOption err ⊥ (λ err. HasReadCause r s shown call err (list ++ more))
+        read_error_more None it = it
+        read_error_more (Some err) it = HasReadCause-more r s call list more over shown err it
+
         explained_more : (asked : Act) (answer : AnswerSeen) → IsExplained r s list shown call asked answer → IsExplained r s (list ++ more) shown call asked answer
         explained_more (act.Update edit) (seen.Updated edition) it = IsUpdated-more call edit edition list more (none_up_to call more over) it
         explained_more (act.Update edit) other it = error_more edit (update_error other) it
+        explained_more act.Read (seen.Read edition value) it = HasFront-more (HasValue r s edition value) list more it
+        explained_more act.Read other it = read_error_more (read_error other) it
         explained_more other answer it = absurd it
 
   module _ (client : Client) (list : List PrefEntry) where

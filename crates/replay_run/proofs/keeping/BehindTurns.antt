@@ -1,35 +1,34 @@
--- What a turn leaves of its client.
-use Rattle.std.proofs.Common.{◌≡◌, ◌≤◌, ◌+◌, is_some, if◌then◌else◌, [], ◌∷◌, ◌++◌, length, length-append, Option, Some, None, option_map, refl, arith}
+-- What a step leaves of its client.
+use Rattle.std.proofs.Common.{◌≡◌, ◌≤◌, ◌+◌, is_some, if◌then◌else◌, [], ◌∷◌, length, length-append, Option, Some, None, option_map, refl, arith}
+use Rattle.store_traits.specs.declared.ids.CallId.{CallId}
 use Rattle.prefs_text.specs.declared.seen.AnswerLineSeen.{AnswerLineSeen}
 use Rattle.prefs_text.specs.declared.seen.AnswerSeen.{AnswerSeen}
-use Rattle.step_table.specs.Calls.{Reply}
+use Rattle.prefs_text.specs.declared.seen.AnswerSeen.TheVariants as seen
+use Rattle.step_table.specs.Calls.{Read, Reply}
 use Rattle.step_table.specs.declared.progress.Progress.{Progress}
 use Rattle.step_table.specs.declared.progress.Progress.TheVariants.{Moved, Blocked, Ended}
-use Rattle.replay_run.specs.Answering.{behind_turn, reply_told}
+use Rattle.replay_run.specs.Answering.{behind_look, behind_turn, client_answered, reply_told}
 use Rattle.replay_run.specs.RunInvariant.{begun}
-use Rattle.replay_run.specs.RunState.{Client}
-use Rattle.replay_run.specs.Settings.{PrefCall, Value}
+use Rattle.replay_run.specs.RunState.{Client, new_call}
+use Rattle.replay_run.specs.Settings.{PrefCached, PrefCall, Value}
 use Rattle.replay_run.proofs.lists.OptionLemmas.{nothing, one_of}
 
-abbrev pub line_of : PrefCall → AnswerSeen → AnswerLineSeen
-line_of call answer = record { call = call.id; poster = None; answer = answer }
+abbrev pub line_of : CallId → AnswerSeen → AnswerLineSeen
+line_of call answer = record { call = call; poster = None; answer = answer }
 
 abbrev pub client_on : Client → PrefCall → Client
 client_on client call = record client { running = Some call }
-
-abbrev pub client_answered : Client → AnswerLineSeen → Client
-client_answered client line = record client { running = None; answered = client.answered ++ line ∷ [] }
 
 -- the call goes on, or a line answers it
 pub data Behind (client : Client) (call : PrefCall) : Progress (Reply Value) → Client → Type 0 where
   moved : Behind client call Moved (client_on client call)
   blocked : Behind client call Blocked (client_on client call)
-  ended : {reply : Reply Value} {answer : AnswerSeen} → reply_told reply ≡ Some answer → Behind client call (Ended reply) (client_answered client (line_of call answer))
+  ended : {reply : Reply Value} {answer : AnswerSeen} → reply_told reply ≡ Some answer → Behind client call (Ended reply) (client_answered client call.id answer)
 
 module _ (client : Client) (call : PrefCall) where
-  ended_by : (reply : Reply Value) (told : Option AnswerSeen) (now : Client) → reply_told reply ≡ told → option_map (λ answer. client_answered client (line_of call answer)) told ≡ Some now → Behind client call (Ended reply) now
+  ended_by : (reply : Reply Value) (told : Option AnswerSeen) (now : Client) → reply_told reply ≡ told → option_map (client_answered client call.id) told ≡ Some now → Behind client call (Ended reply) now
   ended_by reply None now tells is = nothing now is
-  ended_by reply (Some answer) now tells is = rw (← one_of (client_answered client (line_of call answer)) now is) (ended tells)
+  ended_by reply (Some answer) now tells is = rw (← one_of (client_answered client call.id answer) now is) (ended tells)
 
   pub behind : (gave : Progress (Reply Value)) (now : Client) → behind_turn client call gave ≡ Some now → Behind client call gave now
   behind Moved now is = rw (← one_of (client_on client call) now is) moved
@@ -55,4 +54,10 @@ pub behind_same : {client : Client} {call : PrefCall} (gave : Progress (Reply Va
 behind_same gave now moved = record { id = refl; node = refl; earlier = refl; asked = refl; begun = refl }
 behind_same gave now blocked = record { id = refl; node = refl; earlier = refl; asked = refl; begun = refl }
 behind_same {client} {call} gave now (ended {answer = answer} tells) =
-    record { id = refl; node = refl; earlier = refl; asked = refl; begun = let more = length-append client.answered (line_of call answer ∷ []) in omega (arith, more) }
+    record { id = refl; node = refl; earlier = refl; asked = refl; begun = let more = length-append client.answered (line_of call.id answer ∷ []) in omega (arith, more) }
+
+-- so does the look of a read that has not begun
+pub look_same : (client : Client) (found : Option PrefCached) → IsSameClient client (behind_look client found)
+look_same client None = record { id = refl; node = refl; earlier = refl; asked = refl; begun = refl }
+look_same client (Some kept) =
+    record { id = refl; node = refl; earlier = refl; asked = refl; begun = let more = length-append client.answered (line_of (new_call client Read).id (seen.Read kept.edition kept.value) ∷ []) in omega (arith, more) }

@@ -18,23 +18,17 @@ use Rattle.shelf.proofs.LastRaises.{ends_in_raise-none}
 use Rattle.shelf.proofs.PendingMeanwhile.{pending_own}
 use Rattle.node_core.specs.Knows.{Knows}
 use Rattle.node_core.specs.Own.{is_late}
-use Rattle.step_table.specs.Calls.{First, Update}
-use Rattle.script_lang.specs.declared.run_line.Act.{Act}
-use Rattle.script_lang.specs.declared.run_line.Act.TheVariants as act
+use Rattle.script_lang.specs.declared.plan.run_line.Act.{Act}
 use Rattle.replay_run.specs.ClientInvariant.{CallInvariant, ClientInvariant}
 use Rattle.replay_run.specs.Lines.{Asks, with_act}
 use Rattle.replay_run.specs.RunInvariant.{IsOfCall, RunInvariant, begun}
-use Rattle.replay_run.specs.RunState.{Client, RunState, act_now, call_at, call_now}
-use Rattle.replay_run.specs.Settings.{Change, PrefCall, PrefRules, PrefWorld, Value}
+use Rattle.replay_run.specs.RunState.{Client, RunState, act_now, act_of, call_at, call_now, new_call}
+use Rattle.replay_run.specs.Settings.{PrefAsk, PrefCall, PrefRules, PrefWorld, Value}
 use Rattle.replay_run.proofs.keeping.AnswerLemmas.{answers_same}
-use Rattle.replay_run.proofs.keeping.ReplacedClient.{entries_on, owner_stays}
+use Rattle.replay_run.proofs.keeping.ReplacedClient.{entries_on, homes_on, owner_stays}
 use Rattle.replay_run.proofs.lists.JoinedLemmas.{found_in_front}
 use Rattle.replay_run.proofs.lists.OptionLemmas.{one_of_it}
 use Rattle.replay_run.proofs.lists.SetLemmas.{found_then}
-
--- the next call of the client, before its first turn
-abbrev pub new_call : Client → Change → PrefCall
-new_call client edit = record { id = call_at client (length client.answered); at = First (Update edit); since = None }
 
 number_apart : (earlier place next : ℕ) (others : Bool) → place < next → (others && (earlier + next + 1 == earlier + place + 1)) ≡ false
 number_apart earlier place next others before = grind (arith, nat_tests, before)
@@ -63,7 +57,7 @@ module _ (clients : List Client) (place : ℕ) (client : Client) (found : slice_
           rw who (number_apart client.earlier of.place (length client.answered) _ before, and_right _ _ (not_later client.earlier of.place (length client.answered) before))
       by_client false is = (middle_none (client.node.0 == e.who.node.0) (client.id.0 == e.who.client.0) (next.number == e.who.number) is, rw is refl)
 
-  none_own : (is_kind : PrefKind → Bool) (list : List PrefEntry) → All (IsOfCall clients) list → list_any (is_own is_kind next) list ≡ false
+  pub none_own : (is_kind : PrefKind → Bool) (list : List PrefEntry) → All (IsOfCall clients) list → list_any (is_own is_kind next) list ≡ false
   none_own is_kind list all =
       list_any_none (is_own is_kind next) list
       (All-weaker (IsOfCall clients) (λ e. is_own is_kind next e ≡ false) (λ e of. rw (none_of_next e of).0 refl) list all)
@@ -75,8 +69,8 @@ module _ (clients : List Client) (place : ℕ) (client : Client) (found : slice_
   not_pending list all is = never (sym (none_own is_raise list all) ∙ pending_own next list is)
 
   -- a call that is to begin knows all that it needs to
-  new_knows : (r : PrefRules) {M : Type 0} (s : Store Value M) (edit : Change) (w : PrefWorld) → All (IsOfCall clients) w.history → Knows r s w (new_call client edit)
-  new_knows r s edit w all =
+  pub new_knows : (r : PrefRules) {M : Type 0} (s : Store Value M) (ask : PrefAsk) (w : PrefWorld) → All (IsOfCall clients) w.history → Knows r s w (new_call client ask)
+  new_knows r s ask w all =
       record {
         began = tt;
         numbers = none_later w.history all;
@@ -93,19 +87,19 @@ module _ (r : PrefRules) {M : Type 0} (s : Store Value M) (state : RunState) (pl
   mine = keeps.clients place client found
 
   -- the call that the client is at keeps what is to be kept of it
-  pub call_kept : (edit : Change) → act_now client ≡ Some (act.Update edit) → CallInvariant r s client state.shared.world (call_now client edit)
-  call_kept edit asked = by_running client.running refl mine.running
+  pub call_kept : (ask : PrefAsk) → act_now client ≡ Some (act_of ask) → CallInvariant r s client state.shared.world (call_now client ask)
+  call_kept ask asked = by_running client.running refl mine.running
     where
       by_running : (running : Option PrefCall) → client.running ≡ running → IfSome running (CallInvariant r s client state.shared.world)
-          → CallInvariant r s client state.shared.world (unwrap_or running (new_call client edit))
+          → CallInvariant r s client state.shared.world (unwrap_or running (new_call client ask))
       by_running (Some call) is it = it
       by_running None idle it =
           record {
-            edit = edit;
+            ask = ask;
             asked = asked;
             id = refl;
             is_for = refl;
-            knows = new_knows state.clients place client found mine.id idle r s edit state.shared.world keeps.entries;
+            knows = new_knows state.clients place client found mine.id idle r s ask state.shared.world keeps.entries;
             goes_on = refl;
           }
 
@@ -122,7 +116,7 @@ module _ (r : PrefRules) {M : Type 0} (s : Store Value M) (state : RunState) (pl
           id = mine.id;
           running =
               IfSome_then client.running mine.running
-              (λ call it. record { edit = it.edit; asked = more_asked (length client.answered) (act.Update it.edit) it.asked; id = it.id; is_for = it.is_for; knows = it.knows; goes_on = it.goes_on });
+              (λ call it. record { ask = it.ask; asked = more_asked (length client.answered) (act_of it.ask) it.asked; id = it.id; is_for = it.is_for; knows = it.knows; goes_on = it.goes_on });
           answers = answers_same r s client now state.shared.world.history client.answered refl refl refl more_asked mine.answers;
         }
 
@@ -143,6 +137,10 @@ module _ (r : PrefRules) {M : Type 0} (s : Store Value M) (state : RunState) (pl
           deaths = keeps.deaths;
           left = keeps.left;
           built = keeps.built;
+          quiet = keeps.quiet;
+          version = keeps.version;
+          cached = keeps.cached;
+          homes = homes_on state.clients place client now found refl (length state.shared.caches) keeps.homes;
         }
 
 -- the client at a place is asked for one more call

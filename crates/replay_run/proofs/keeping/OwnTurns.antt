@@ -1,5 +1,5 @@
 -- What a turn of a call leaves in a peaceful world.
-use Rattle.std.proofs.Common.{◌≡◌, ◌∙◌, inl, inr, ℕ, Bool, true, false, List, [], ◌++◌, Some, IfSome, IsTrue, append-nil, count_by, option_map, unwrap_or, refl, sym, ap, subst}
+use Rattle.std.proofs.Common.{◌≡◌, ◌∙◌, ℕ, Bool, true, false, List, [], ◌++◌, Some, IfSome, IsTrue, append-nil, count_by, option_map, unwrap_or, refl, sym, ap, subst}
 use Rattle.std.specs.List.{list_any}
 use Rattle.store_traits.specs.declared.ids.CallId.{CallId}
 use Rattle.folder_disk.specs.Tally.{most_of}
@@ -11,19 +11,16 @@ use Rattle.shelf.specs.Entries.{is_own, is_update, with_entries}
 use Rattle.shelf.proofs.Bools.{never}
 use Rattle.shelf.proofs.DeathLemmas.{has_not_died}
 use Rattle.step_table.specs.declared.progress.Progress.{Progress}
-use Rattle.step_table.specs.declared.progress.Progress.TheVariants.{Moved, Ended}
+use Rattle.step_table.specs.declared.progress.Progress.TheVariants.{Ended}
 use Rattle.step_table.specs.Calls.{At, Changed, Kept, Reply, is_gone}
 use Rattle.step_table.specs.Effects.{Effect, Next, Ends, gave_by}
-use Rattle.step_table.specs.Rows.{Row, finishes, raises, renames, acknowledges, refuses, sync_fails}
+use Rattle.step_table.specs.Rows.{Row, finishes, raises, renames, acknowledges, gives, refuses, sync_fails}
 use Rattle.step_table.specs.Turn.{AllowedBy, RowOf, Turn, dies_now, has_died_by}
 use Rattle.step_table.specs.World.{Turned, begin}
 use Rattle.step_table.proofs.Applying.{all_added, entries_of}
-use Rattle.step_table.proofs.LockLemmas.{not_freed}
 use Rattle.node_core.specs.Own.{IsEarly, OwnEntries}
-use Rattle.node_core.specs.Phases.{is_holding}
 use Rattle.node_core.specs.Plans.{PlanAt}
 use Rattle.node_core.proofs.FailedCalls.{no_update}
-use Rattle.node_core.proofs.MovingLemmas.{moved_goes}
 use Rattle.script_lang.specs.GoodCauses.{may_stand}
 use Rattle.script_lang.specs.Shown.{printed}
 use Rattle.replay_run.specs.Answering.{reply_told}
@@ -76,6 +73,7 @@ module _ (r : PrefRules) {M : Type 0} (s : Store Value M) where
     row_prints : {at : At Value Change} {e : Effect Value Change} → Row r s w call at e → EndsNow w e.next
     row_prints (refuses read refused) = refl
     row_prints acknowledges = refl
+    row_prints (gives plain read) = refl
     row_prints other = tt
 
     -- a row that ends so adds nothing to a call that has changed nothing
@@ -148,11 +146,3 @@ module _ (r : PrefRules) {M : Type 0} (s : Store Value M) where
   module _ (t : Turned Value Change) where
     pub same_call_after : (gave : Progress (Reply Value)) → Turn r s t gave → t.call_after.id ≡ t.call.id
     same_call_after gave turn = ap (λ (c : PrefCall). c.id) turn.comes.call
-
-    -- where the call owns the lock behind it, it holds it
-    pub moved_holds : Turn r s t Moved → t.world_after.owner ≡ Some t.call.id → is_holding t.call_after.at ≡ true
-    moved_holds turn owns =
-        elim (moved_goes r s t turn) [
-          | inl holds ↦ holds
-          | inr first ↦ absurd (not_freed t.call.id t.world.owner (sym first.1 ∙ owns))
-        ]

@@ -9,6 +9,7 @@ use Rattle.replay_run.specs.RunInvariant.{HasOwner, IsOfCall, begun}
 use Rattle.replay_run.specs.RunState.{Client, call_at}
 use Rattle.replay_run.proofs.lists.OptionLemmas.{one_of_it}
 use Rattle.replay_run.proofs.lists.SetLemmas.{others_found, set_found}
+use Rattle.replay_run.proofs.lists.SetViews.{all_found, all_set}
 
 module _ (clients : List Client) (place : ℕ) (client now : Client) (found : slice_get clients place ≡ Some client) where
   abbrev pub replaced : List Client
@@ -31,6 +32,12 @@ module _ (clients : List Client) (place : ℕ) (client now : Client) (found : sl
 
     pub entries_on : (list : List PrefEntry) → All (IsOfCall clients) list → All (IsOfCall replaced) list
     entries_on list all = All-weaker (IsOfCall clients) (IsOfCall replaced) entry_on list all
+
+  -- each client's node has its cache still
+  pub homes_on : now.node ≡ client.node → (caches : ℕ) → All (λ client. client.node.0 < caches) clients → All (λ client. client.node.0 < caches) replaced
+  homes_on same caches all =
+      let here = all_found (λ client. client.node.0 < caches) clients place client found all in
+      all_set (λ client. client.node.0 < caches) clients place now (rw same here) (λ other c apart is. all_found (λ client. client.node.0 < caches) clients other c is all)
 
   -- an owner at another place is one still
   pub owner_apart : (owner : CallId) → (it : HasOwner clients owner) → (it.place ≡ place → ⊥) → HasOwner replaced owner

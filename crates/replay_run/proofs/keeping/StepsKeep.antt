@@ -1,28 +1,38 @@
 -- What a run keeps: at the start, with each step of a client, and when nobody has anything to do.
-use Rattle.std.proofs.Common.{◌≡◌, ◌∙◌, ◌+◌, ℕ, suc, zero, false, List, [], ◌∷◌, length, map, Option, Some, None, IfSome, is_some, slice_get, slice_set, refl, sym, ap, subst, arith}
+use Rattle.std.proofs.Common.{◌≡◌, ◌∙◌, ◌+◌, ◌<◌, All, get_or, ℕ, suc, zero, false, List, [], ◌∷◌, length, map, Option, Some, None, IfSome, is_some, slice_get, slice_set, refl, sym, ap, subst, arith}
 use Rattle.std.specs.List.{enumerate_from}
-use Rattle.std.proofs.lemmas.List.Elements.{All-contains_itself, All-nil}
+use Rattle.std.proofs.lemmas.List.{length-map}
+use Rattle.std.proofs.lemmas.List.Elements.{All-contains_itself, All-map, All-nil}
+use Rattle.std.proofs.lemmas.List.FromFn.{length-enumerate_from}
+use Rattle.std.proofs.lemmas.Option.{slice_get-get_or}
 use Rattle.store_traits.specs.declared.ids.NodeId.{NodeId}
 use Rattle.folder_disk.specs.Tally.{Tally, most_of}
+use Rattle.hist_journal.specs.Folds.{raises_of}
+use Rattle.hist_journal.specs.Quiet.{pending}
 use Rattle.shelf.specs.declared.store.Store.{Store}
 use Rattle.shelf.proofs.Bools.{never}
 use Rattle.shelf.proofs.LegalLemmas.{nothing_stands_in_none}
 use Rattle.step_table.specs.World.{Begins}
+use Rattle.value_cache.specs.Truth.{IsOfPrefix}
 use Rattle.script_lang.specs.Asked.{Asked}
-use Rattle.script_lang.specs.declared.run_line.Act.{Act}
-use Rattle.script_lang.specs.declared.run_line.Act.TheVariants as act
+use Rattle.script_lang.specs.Chronicle.{nodes_of}
+use Rattle.script_lang.specs.declared.plan.script.Script.{Script}
+use Rattle.script_lang.specs.declared.plan.run_line.Act.{Act}
 use Rattle.replay_run.specs.ClientInvariant.{CallInvariant, ClientInvariant}
 use Rattle.replay_run.specs.Rounds.{IsOver}
 use Rattle.replay_run.specs.RunInvariant.{IsOfCall, ReadsWell, RunInvariant}
-use Rattle.replay_run.specs.RunState.{Client, RunState, act_now, is_busy}
-use Rattle.replay_run.specs.Settings.{PrefCall, PrefRules, Value}
+use Rattle.replay_run.specs.RunState.{Client, NodeView, RunState, act_now, act_of, is_busy}
+use Rattle.replay_run.specs.Settings.{PrefCached, PrefCall, PrefRules, PrefWorld, Value}
 use Rattle.replay_run.specs.Start.{new_client, new_clients, start_of, world_of}
-use Rattle.replay_run.specs.Steps.{StepsAt, StepsBy}
+use Rattle.replay_run.specs.Steps.{StepsAt}
 use Rattle.replay_run.proofs.keeping.AnswerLemmas.{answered_within}
+use Rattle.replay_run.proofs.keeping.LookKeeps.{look_keeps}
 use Rattle.replay_run.proofs.keeping.Peaceful.{none_before}
+use Rattle.replay_run.proofs.keeping.StepCases.{StepCase, looks, rests, step_case, turns}
 use Rattle.replay_run.proofs.keeping.TurnKeeps.{turn_keeps}
 use Rattle.replay_run.proofs.lists.OptionLemmas.{none_at, none_past, nothing, one_of}
 use Rattle.replay_run.proofs.lists.SetLemmas.{set_same}
+use Rattle.replay_run.proofs.lists.SetViews.{all_found}
 
 -- a client at the start stands at its place, and is a new one of the node there
 pub record IsNew (before : List Asked) (homes : List NodeId) (index place : ℕ) (client : Client) : Type 0 where
@@ -45,9 +55,14 @@ pub starts_begin : {M : Type 0} (s : Store Value M) (tally : Tally) → tally.co
 starts_begin s tally counted =
     record { main = λ told. refl; sections = refl; alone = λ told alone. refl; owner = refl; history = refl; deaths = refl; version = refl; count = counted }
 
+-- the home of each client is one of the script's nodes
+pub homes_declared : (script : Script) → All (λ home. home.0 < length script.names.nodes) script.homes → All (λ home. home.0 < length (nodes_of script)) script.homes
+homes_declared script declared = rw (length-map, length-enumerate_from) declared
+
 module _ (r : PrefRules) {M : Type 0} (s : Store Value M) where
-  pub start_keeps : s.folder.most ≡ Some 0 → (before : List Asked) (tally : Tally) (homes : List NodeId) → tally.count ≡ s.folder.count → most_of s.folder.count tally.due ≡ s.folder.most → RunInvariant r s (start_of before tally s homes)
-  start_keeps most before tally homes counted due =
+  pub start_keeps : s.folder.most ≡ Some 0 → (before : List Asked) (tally : Tally) (homes : List NodeId) → tally.count ≡ s.folder.count → most_of s.folder.count tally.due ≡ s.folder.most → All (λ home. home.0 < length s.nodes) homes → RunInvariant r s (start_of before tally s homes)
+  unfolding pending raises_of
+  start_keeps most before tally homes counted due declared =
       record {
         clients = λ place client found. keeps_new place client (new_from before 0 homes place client found);
         entries = All-nil (IsOfCall (new_clients before homes));
@@ -58,6 +73,13 @@ module _ (r : PrefRules) {M : Type 0} (s : Store Value M) where
         deaths = λ front e behind is. absurd (nothing_stands_in_none front behind e is);
         left = All-contains_itself s.deaths;
         built = refl;
+        quiet = λ call is. nothing call is;
+        version = refl;
+        cached = All-map (λ kept. IfSome kept (IsOfPrefix r.meanings.after s.base [])) (λ node. None) s.nodes (λ place node within. tt);
+        homes =
+            λ place client within.
+            let it = new_from before 0 homes place (get_or (new_clients before homes) place client) (slice_get-get_or (new_clients before homes) place client within) in
+            rw (it.is, length-map) (all_found (λ home. home.0 < length s.nodes) homes place it.node it.home declared);
       }
     where
       keeps_new : (place : ℕ) (client : Client) → IsNew before homes place (0 + place) client → ClientInvariant r s place (world_of tally s) client
@@ -69,15 +91,37 @@ module _ (r : PrefRules) {M : Type 0} (s : Store Value M) where
             answers = λ front line behind is. absurd (nothing_stands_in_none front behind line is);
           })
 
-  -- the state keeps this from step to step
-  pub steps_keep : s.deaths ≡ [] → s.folder.most ≡ Some 0 → (place : ℕ) (old new : RunState) → StepsAt r s place old new → ReadsWell r s old.shared.world → RunInvariant r s old → RunInvariant r s new
-  steps_keep unplanned most place old new it well keeps =
-      subst (λ clients. RunInvariant r s (record { shared = new.shared; clients = clients })) (sym it.now) (steps_by (act_now it.client) refl it.steps)
-    where
-      steps_by : (asked : Option Act) → act_now it.client ≡ asked → StepsBy r s asked it.client old.shared it.client_after new.shared → RunInvariant r s (record { shared = new.shared; clients = slice_set old.clients place it.client_after })
-      steps_by None is steps = rw (steps.0, steps.1, set_same old.clients place it.client it.was) keeps
-      steps_by (Some (act.Update edit)) is turn = turn_keeps r s unplanned most old place it.client it.client_after new.shared edit it.was is turn keeps well
-      steps_by (Some other) is none = absurd none
+  module _ (unplanned : s.deaths ≡ []) (most : s.folder.most ≡ Some 0) (place : ℕ) (old new : RunState) (it : StepsAt r s place old new) (well : ReadsWell r s old.shared.world) (keeps : RunInvariant r s old) where
+    abbrev w_after : PrefWorld
+    w_after = new.shared.world
+
+    abbrev view : NodeView
+    view = record { world = old.shared.world; kept = it.kept }
+
+    abbrev view_after : NodeView
+    view_after = record { world = w_after; kept = it.kept_after }
+
+    abbrev caches_after : Option PrefCached → List (Option PrefCached)
+    caches_after kept = slice_set old.shared.caches it.client.node.0 kept
+
+    abbrev Now : PrefWorld → List (Option PrefCached) → Client → Type 0
+    Now w caches client = RunInvariant r s (record { shared = record { world = w; caches = caches }; clients = slice_set old.clients place client })
+
+    -- the world and the caches are as they were
+    same_view : (client : Client) → view_after ≡ view → Now old.shared.world old.shared.caches client → Now w_after (caches_after it.kept_after) client
+    same_view client same kept =
+        rw (ap (λ (v : NodeView). v.world) same, ap (λ (v : NodeView). v.kept) same, set_same old.shared.caches it.client.node.0 it.kept it.cache) kept
+
+    by_case : StepCase r s it.client view it.client_after view_after → Now w_after (caches_after it.kept_after) it.client_after
+    by_case (rests none client same) = same_view it.client_after same (rw (client, set_same old.clients place it.client it.was) keeps)
+    by_case (turns ask asked turn) = turn_keeps r s unplanned most old place it.client it.client_after it.kept it.kept_after w_after ask it.was it.cache asked turn keeps well
+    by_case (looks asked idle look) = same_view it.client_after look.same (rw look.now (look_keeps r s old place it.client it.kept it.was it.cache asked idle keeps well))
+
+    -- the state keeps this from step to step
+    pub steps_keep : RunInvariant r s new
+    steps_keep =
+        subst (λ (state : RunState). RunInvariant r s state) (ap (λ caches. record { shared = record { world = w_after; caches = caches }; clients = slice_set old.clients place it.client_after }) (sym it.caches) ∙ ap (λ clients. record { shared = new.shared; clients = clients }) (sym it.now))
+        (by_case (step_case r s it.client view it.client_after view_after it.steps))
 
   -- where nobody has anything to do, each client has an answer for each of its calls
   pub all_answered : (state : RunState) → RunInvariant r s state → IsOver state → (place : ℕ) (client : Client) → slice_get state.clients place ≡ Some client → (client.running ≡ None) × (length client.answered ≡ length client.asked)
@@ -88,11 +132,11 @@ module _ (r : PrefRules) {M : Type 0} (s : Store Value M) where
 
       by_running : (running : Option PrefCall) → IfSome running (CallInvariant r s client state.shared.world) → act_now client ≡ None → running ≡ None
       by_running None it none = refl
-      by_running (Some call) it none = nothing (act.Update it.edit) (sym none ∙ it.asked)
+      by_running (Some call) it none = nothing (act_of it.ask) (sym none ∙ it.asked)
 
       by_act : (asked : Option Act) → act_now client ≡ asked → is_some asked ≡ false → (client.running ≡ None) × (length client.answered ≡ length client.asked)
-      by_act None none rests =
+      by_act None none idle =
           let last = none_past client.asked (length client.answered) none in
           let most = answered_within r s client state.shared.world.history client.answered kept.answers in
           (by_running client.running kept.running none, omega (arith, last, most))
-      by_act (Some asked) is rests = never (sym rests)
+      by_act (Some asked) is idle = never (sym idle)

@@ -1,12 +1,14 @@
 -- A turn of a client's call keeps what is kept between the steps of a run.
-use Rattle.std.proofs.Common.{◌≡◌, ◌∙◌, inl, inr, ◌≤◌, ◌<◌, ◌+◌, ◌==◌, ◌&&◌, ℕ, nat_le, Bool, true, false, List, All, Contains, [], ◌∷◌, ◌++◌, length, count_by, Option, Some, None, IfSome, slice_get, slice_set, slice_index_or, unwrap_or, refl, sym, ap, subst, arith}
+use Rattle.std.proofs.Common.{◌≡◌, ◌∙◌, inl, inr, ◌≤◌, ◌<◌, ◌+◌, ◌==◌, ◌&&◌, ℕ, nat_le, Bool, true, false, List, All, Contains, [], ◌∷◌, ◌++◌, length, count_by, Option, Some, None, IfSome, MatchOption, append-nil, slice_get, slice_set, slice_index_or, unwrap_or, refl, sym, ap, subst, arith}
 use Rattle.std.specs.List.{list_any}
 use Rattle.std.proofs.lemmas.Bool.{ne_eqb}
 use Rattle.std.proofs.lemmas.Bool.Decides.{nat_tests}
+use Rattle.std.proofs.lemmas.List.{length-set}
 use Rattle.std.proofs.lemmas.List.Elements.{All-append, All-map, All-nil}
 use Rattle.std.proofs.lemmas.List.Sums.{sum_by-append}
 use Rattle.std.proofs.lemmas.Option.{IfSome_then}
 use Rattle.store_traits.specs.declared.ids.CallId.{CallId}
+use Rattle.store_traits.specs.declared.read_error.ReadError.{ReadError}
 use Rattle.store_traits.specs.declared.update_error.UpdateError.{UpdateError}
 use Rattle.store_traits.specs.declared.update_error.UpdateError.TheVariants as error
 use Rattle.folder_disk.specs.Tally.{most_of}
@@ -15,7 +17,7 @@ use Rattle.hist_journal.specs.Kinds.{is_call}
 use Rattle.prefs_text.specs.EntryText.{PrefEntry, PrefKind}
 use Rattle.prefs_text.specs.declared.seen.AnswerSeen.{AnswerSeen}
 use Rattle.shelf.specs.declared.store.Store.{Store}
-use Rattle.shelf.specs.Causes.{HasCause}
+use Rattle.shelf.specs.Causes.{HasCause, HasReadCause}
 use Rattle.shelf.specs.Each.{Each}
 use Rattle.shelf.specs.Entries.{is_any, is_own, is_update}
 use Rattle.shelf.specs.Meanwhile.{NoneOf}
@@ -26,36 +28,44 @@ use Rattle.shelf.proofs.EachLemmas.{each_push}
 use Rattle.shelf.proofs.SameCalls.{itself, same_call}
 use Rattle.step_table.specs.declared.progress.Progress.{Progress}
 use Rattle.step_table.specs.declared.progress.Progress.TheVariants.{Ended}
-use Rattle.step_table.specs.Calls.{Reply, Updated, Gave, Failed, is_gone}
+use Rattle.step_table.specs.Caching.{published_by}
+use Rattle.step_table.specs.Calls.{Update, Read, Reply, Updated, Gave, Failed, is_gone}
 use Rattle.step_table.specs.Turn.{Turn}
 use Rattle.step_table.specs.World.{Turned}
-use Rattle.step_table.proofs.Applying.{ended_owns_nothing, entries_of, none_passes, turn_owner}
+use Rattle.step_table.proofs.Applying.{ended_owns_nothing, entries_of, none_passes, turn_owner, version_counts}
 use Rattle.step_table.proofs.Waiting.{turn_waits}
+use Rattle.value_cache.specs.Truth.{IsOfPrefix}
+use Rattle.value_cache.proofs.TruthLemmas.{IsOfPrefix-append, IsOfPrefix-now, IsOfPrefix-published}
 use Rattle.node_core.specs.Own.{IsFor}
+use Rattle.node_core.specs.Shown.{ShowsReadCause, ShowsReply, as_read}
 use Rattle.node_core.proofs.BetweenLemmas.{between_keeps_knowledge}
-use Rattle.node_core.proofs.CauseOfAnswers.{ShowsReply, told_cause, turn_shows}
+use Rattle.node_core.proofs.CauseOfAnswers.{told_cause, told_read_cause, turn_shows}
 use Rattle.node_core.proofs.ForLemmas.{turn_is_for, still_for}
 use Rattle.node_core.proofs.KeepingLemmas.{turn_keeps_knowledge, turn_stays}
-use Rattle.node_core.proofs.MovingLemmas.{moved_runs}
+use Rattle.node_core.proofs.MovingLemmas.{moved_holds, moved_runs}
+use Rattle.node_core.proofs.PublishedLemmas.{turn_publishes, turn_quiet}
 use Rattle.node_core.proofs.SparingLemmas.{turn_spares}
 use Rattle.script_lang.specs.GoodCauses.{may_stand}
 use Rattle.script_lang.specs.Shown.{printed, shown_to}
-use Rattle.script_lang.specs.declared.run_line.Act.TheVariants as act
-use Rattle.replay_run.specs.Answering.{error_told, reply_told}
+use Rattle.script_lang.specs.declared.plan.run_line.Act.{Act}
+use Rattle.script_lang.specs.declared.plan.run_line.Act.TheVariants as act
+use Rattle.replay_run.specs.Answering.{client_answered, error_told, reply_told}
 use Rattle.replay_run.specs.ClientInvariant.{CallInvariant, ClientInvariant, IsExplained, IsTrueAnswer}
 use Rattle.replay_run.specs.RunInvariant.{HasOwner, IsOfCall, ReadsWell, RunInvariant}
-use Rattle.replay_run.specs.RunState.{Client, RunState, Shared, act_now, call_at, call_now}
-use Rattle.replay_run.specs.Settings.{Change, PrefCall, PrefRules, PrefWorld, Value}
-use Rattle.replay_run.specs.Steps.{TakesTurn}
-use Rattle.replay_run.proofs.keeping.AnswerLemmas.{answers_more, answers_same, cause_of_less, shown_stays, shown_within}
-use Rattle.replay_run.proofs.keeping.BehindTurns.{Behind, at_most_one, IsSameClient, behind, behind_same, blocked, client_answered, client_on, ended, line_of, moved}
-use Rattle.replay_run.proofs.keeping.CallKept.{call_kept, middle_none, new_call}
-use Rattle.replay_run.proofs.keeping.OwnTurns.{OwnTurn, comes_later, leaves_none, living, moved_holds, own_turn, prints_now, same_call_after}
+use Rattle.replay_run.specs.RunState.{Client, RunState, act_now, act_of, call_at, call_now, new_call}
+use Rattle.replay_run.specs.Settings.{Change, PrefAsk, PrefCached, PrefCall, PrefRules, PrefWorld, Value}
+use Rattle.replay_run.specs.Steps.{TakesTurn, kept_behind}
+use Rattle.replay_run.proofs.keeping.AnswerLemmas.{answers_more, answers_same, cause_of_less, read_cause_of_less, shown_stays, shown_within}
+use Rattle.replay_run.proofs.keeping.BehindTurns.{Behind, at_most_one, IsSameClient, behind, behind_same, blocked, client_on, ended, line_of, moved}
+use Rattle.replay_run.proofs.keeping.CallKept.{call_kept, middle_none}
+use Rattle.replay_run.proofs.keeping.KeptBehind.{kept_true}
+use Rattle.replay_run.proofs.keeping.OwnTurns.{OwnTurn, comes_later, leaves_none, living, own_turn, prints_now, same_call_after}
 use Rattle.replay_run.proofs.keeping.Peaceful.{Peaceful, dies, is_folder_fault, is_peaceful, none_before}
-use Rattle.replay_run.proofs.keeping.ReplacedClient.{entries_on, owner_apart}
+use Rattle.replay_run.proofs.keeping.ReplacedClient.{entries_on, homes_on, owner_apart}
 use Rattle.replay_run.proofs.lists.JoinedLemmas.{found_between}
 use Rattle.replay_run.proofs.lists.OptionLemmas.{none_at, one_of_it}
 use Rattle.replay_run.proofs.lists.SetLemmas.{found_then, set_found}
+use Rattle.replay_run.proofs.lists.SetViews.{all_found, all_set}
 
 up_to_none : (same : Bool) (earlier place nth : ℕ) → place < nth → (same && nat_le (earlier + nth + 1) (earlier + place + 1)) ≡ false
 up_to_none same earlier place nth less = grind (arith, nat_tests, less)
@@ -64,16 +74,14 @@ none_counted : {X : Type 0} (p : X → Bool) (xs ys : List X) → count_by p xs 
 none_counted p xs ys none more = sum_by-append _ xs ys ∙ rw (none, more) refl
 
 module _ (r : PrefRules) {M : Type 0} (s : Store Value M) (unplanned : s.deaths ≡ []) (most : s.folder.most ≡ Some 0) where
-  module _ (state : RunState) (place : ℕ) (client now : Client) (shared_after : Shared) (edit : Change) (found : slice_get state.clients place ≡ Some client) (asked : act_now client ≡ Some (act.Update edit))
-      (it : TakesTurn r s edit client state.shared now shared_after) (keeps : RunInvariant r s state) (well : ReadsWell r s state.shared.world) where
+  module _ (state : RunState) (place : ℕ) (client now : Client) (cached cached_after : Option PrefCached) (w_after : PrefWorld) (ask : PrefAsk) (found : slice_get state.clients place ≡ Some client)
+      (cache : slice_get state.shared.caches client.node.0 ≡ Some cached) (asked : act_now client ≡ Some (act_of ask))
+      (it : TakesTurn r s (call_now client ask) client (record { world = state.shared.world; kept = cached }) now (record { world = w_after; kept = cached_after })) (keeps : RunInvariant r s state) (well : ReadsWell r s state.shared.world) where
     abbrev w : PrefWorld
     w = state.shared.world
 
-    abbrev w_after : PrefWorld
-    w_after = shared_after.world
-
     abbrev call : PrefCall
-    call = call_now client edit
+    call = call_now client ask
 
     abbrev turned : Turned Value Change
     turned = record { world = w; call = call; world_after = w_after; call_after = it.call_after }
@@ -81,11 +89,14 @@ module _ (r : PrefRules) {M : Type 0} (s : Store Value M) (unplanned : s.deaths 
     abbrev clients_after : List Client
     clients_after = slice_set state.clients place now
 
+    abbrev caches_after : List (Option PrefCached)
+    caches_after = slice_set state.shared.caches client.node.0 cached_after
+
     mine : ClientInvariant r s place w client
     mine = keeps.clients place client found
 
     kept : CallInvariant r s client w call
-    kept = call_kept r s state place client found keeps edit asked
+    kept = call_kept r s state place client found keeps ask asked
 
     peace : Peaceful w
     peace = is_peaceful s unplanned most r state keeps
@@ -121,10 +132,10 @@ module _ (r : PrefRules) {M : Type 0} (s : Store Value M) (unplanned : s.deaths 
           let o_differs : (o.id.client.0 == call.id.client.0) ≡ false = rw theirs.id differ in
           let none_own : NoneOf o.id more = none_passes call.id it.turn.effect.kinds (is_own is_any o.id) (λ kind. rw (middle_none (o.id.node.0 == call.id.node.0) (o.id.client.0 == call.id.client.0) (o.id.number == call.id.number) o_differs) refl) in
           record {
-            edit = theirs.edit;
+            ask = theirs.ask;
             asked = theirs.asked;
             id = theirs.id;
-            is_for = rw own.adds (still_for o.id theirs.edit o.at w.history more none_own theirs.is_for);
+            is_for = rw own.adds (still_for o.id theirs.ask o.at w.history more none_own theirs.is_for);
             knows =
                 between_keeps_knowledge r s o w w_after theirs.knows (turn_spares r s turned it.gave it.turn kept.knows o o_differs theirs.knows)
                 (has_not_died o.id.node o.since w_after.history alive_after);
@@ -158,29 +169,51 @@ module _ (r : PrefRules) {M : Type 0} (s : Store Value M) (unplanned : s.deaths 
     abbrev TurnOf : Progress (Reply Value) → Type 0
     TurnOf gave = Turn r s turned gave
 
-    shows : (reply : Reply Value) → TurnOf (Ended reply) → ShowsReply r s kept.edit w call.id (Ended reply) w_after.history
-    shows reply turn = turn_shows r s kept.edit turned kept.knows well.reads kept.is_for (Ended reply) turn (λ died. never (sym (living r s turned peace) ∙ died))
+    abbrev Shows : PrefAsk → Reply Value → Type 0
+    Shows ask reply = ShowsReply w.told r s (edition_of w.history) call.id ask reply w_after.history
 
-    error_explained : (err : UpdateError) → HasCause r s shown call.id kept.edit err w_after.history → IfSome (error_told err) (IsExplained r s w_after.history shown call.id (act.Update kept.edit))
-    error_explained error.NoMemory cause = tt
-    error_explained other cause = cause
+    shows : (reply : Reply Value) → TurnOf (Ended reply) → Shows kept.ask reply
+    shows reply turn = turn_shows r s kept.ask turned kept.knows well.reads kept.is_for (Ended reply) turn (λ died. never (sym (living r s turned peace) ∙ died))
 
-    explains : (reply : Reply Value) → TurnOf (Ended reply) → IfSome (reply_told reply) (IsExplained r s w_after.history shown call.id (act.Update kept.edit))
-    explains (Updated edition) turn = shows (Updated edition) turn
-    explains (Gave edition value) turn = tt
-    explains (Failed err) turn =
-        error_explained err
-        (cause_of_less r s shown (edition_of w.history) call.id kept.edit err w_after.history within_now
-        (told_cause r s kept.edit w.told (edition_of w.history) call.id err w_after.history well.told (shows (Failed err) turn)))
+    abbrev IsExplainedNow : Act → AnswerSeen → Type 0
+    IsExplainedNow = IsExplained r s w_after.history shown call.id
 
-    new_answer : (reply : Reply Value) (answer : AnswerSeen) → reply_told reply ≡ Some answer → TurnOf (Ended reply) → IsTrueAnswer r s w_after.history client client.answered (line_of it.call_after answer)
+    update_error_explained : (edit : Change) (err : UpdateError) → HasCause r s shown call.id edit err w_after.history → IfSome (error_told err) (IsExplainedNow (act.Update edit))
+    update_error_explained edit error.NoMemory cause = tt
+    update_error_explained edit other cause = cause
+
+    read_error_explained : (err : UpdateError) → MatchOption (as_read err) ⊥ (λ why. HasReadCause r s shown call.id why w_after.history) → IfSome (error_told err) (IsExplainedNow act.Read)
+    read_error_explained (error.Refused code edition) cause = absurd cause
+    read_error_explained error.NoMemory cause = tt
+    read_error_explained other cause = cause
+
+    read_caused : (why : Option ReadError) → MatchOption why ⊥ (λ why. ShowsReadCause w.told r s (edition_of w.history) call.id why w_after.history) → MatchOption why ⊥ (λ why. HasReadCause r s shown call.id why w_after.history)
+    read_caused None cause = cause
+    read_caused (Some why) cause =
+        read_cause_of_less r s shown (edition_of w.history) call.id why w_after.history within_now (told_read_cause r s w.told (edition_of w.history) call.id why w_after.history well.told cause)
+
+    explained_by : (ask : PrefAsk) (reply : Reply Value) → Shows ask reply → IfSome (reply_told reply) (IsExplainedNow (act_of ask))
+    explained_by (Update edit) (Updated edition) shows = shows
+    explained_by (Update edit) (Gave edition value) shows = absurd shows
+    explained_by (Update edit) (Failed err) shows =
+        update_error_explained edit err
+        (cause_of_less r s shown (edition_of w.history) call.id edit err w_after.history within_now (told_cause r s edit w.told (edition_of w.history) call.id err w_after.history well.told shows))
+    explained_by Read (Updated edition) shows = absurd shows
+    explained_by Read (Gave edition value) shows =
+        record { front = w_after.history; back = []; is = sym (append-nil w_after.history); holds = record { reached = sym shows.reached; value = shows.held well.told } }
+    explained_by Read (Failed err) shows = read_error_explained err (read_caused (as_read err) shows)
+
+    explains : (reply : Reply Value) → TurnOf (Ended reply) → IfSome (reply_told reply) (IsExplainedNow (act_of kept.ask))
+    explains reply turn = explained_by kept.ask reply (shows reply turn)
+
+    new_answer : (reply : Reply Value) (answer : AnswerSeen) → reply_told reply ≡ Some answer → TurnOf (Ended reply) → IsTrueAnswer r s w_after.history client client.answered (line_of it.call_after.id answer)
     new_answer reply answer tells turn =
         record {
-          act = act.Update kept.edit;
+          act = act_of kept.ask;
           asked = kept.asked;
           call = same_id ∙ kept.id;
           poster = refl;
-          explained = subst (λ id. IsExplained r s w_after.history shown id (act.Update kept.edit) answer) (sym same_id) (let here = explains reply turn in rw tells at here);
+          explained = subst (λ id. IsExplained r s w_after.history shown id (act_of kept.ask) answer) (sym same_id) (let here = explains reply turn in rw tells at here);
           late = IfSome_then (printed answer) (prints_now r s turned peace reply turn answer tells) (λ edition now. rw now within_now);
           none = subst (λ id. may_stand answer ≡ false → list_any (is_own is_update id) w_after.history ≡ false) (sym same_id) (leaves_none r s turned peace reply turn answer tells well.told kept.knows.entries);
         }
@@ -192,10 +225,10 @@ module _ (r : PrefRules) {M : Type 0} (s : Store Value M) (unplanned : s.deaths 
           id = mine.id;
           running =
               record {
-                edit = kept.edit;
+                ask = kept.ask;
                 asked = kept.asked;
                 id = same_id ∙ kept.id;
-                is_for = subst (λ id. IsFor id kept.edit it.call_after.at w_after.history) (sym same_id) (turn_is_for r s kept.edit turned it.gave it.turn kept.knows kept.is_for);
+                is_for = subst (λ id. IsFor id kept.ask it.call_after.at w_after.history) (sym same_id) (turn_is_for r s kept.ask turned it.gave it.turn kept.knows kept.is_for);
                 knows = turn_keeps_knowledge r s turned it.gave it.turn kept.knows well.reads goes_on;
                 goes_on = goes_on;
               };
@@ -206,12 +239,12 @@ module _ (r : PrefRules) {M : Type 0} (s : Store Value M) (unplanned : s.deaths 
     client_behind gave c moved turn = client_goes_on (moved_runs r s turned turn)
     client_behind gave c blocked turn = client_goes_on (ap (λ (c : PrefCall). is_gone c.at) (turn_stays r s turned turn).1 ∙ kept.goes_on)
     client_behind gave c (ended {reply} {answer} tells) turn =
-        let line = line_of it.call_after answer in
+        let line = line_of it.call_after.id answer in
         record {
           id = mine.id;
           running = tt;
           answers =
-              answers_same r s client (client_answered client line) w_after.history (client.answered ++ line ∷ []) refl refl refl (λ nth a is. is)
+              answers_same r s client (client_answered client it.call_after.id answer) w_after.history (client.answered ++ line ∷ []) refl refl refl (λ nth a is. is)
               (each_push (IsTrueAnswer r s w_after.history client) client.answered line still_true (new_answer reply answer tells turn));
         }
 
@@ -259,7 +292,7 @@ module _ (r : PrefRules) {M : Type 0} (s : Store Value M) (unplanned : s.deaths 
         (λ here.
         let same_client : owner.client ≡ client = one_of_it (slice_get state.clients place) owner.client client (rw (← here) owner.found) found in
         let runs : client.running ≡ Some owner.call = ap (λ (c : Client). c.running) (sym same_client) ∙ owner.runs in
-        unlike (owner.own ∙ ap (λ running. (unwrap_or running (new_call client edit)).id) (sym runs)))
+        unlike (owner.own ∙ ap (λ running. (unwrap_or running (new_call client ask)).id) (sym runs)))
 
     owner_by : (o : Option CallId) → w_after.owner ≡ o → IfSome o (HasOwner clients_after)
     owner_by None is = tt
@@ -271,7 +304,25 @@ module _ (r : PrefRules) {M : Type 0} (s : Store Value M) (unplanned : s.deaths 
             rw same (own_owner it.gave now (behind client it.call_after it.gave now it.now) it.turn (is ∙ ap (λ (x : CallId). Some x) same))
         by_own false own = other_owner id is (λ same. never (sym own ∙ (rw same (itself call.id))))
 
-    pub turn_keeps : RunInvariant r s (record { shared = shared_after; clients = clients_after })
+    -- what the caches keep is of a prefix of the history still, and what is published of all of it
+    abbrev IsOfNow : Option PrefCached → Type 0
+    IsOfNow one = IfSome one (IsOfPrefix r.meanings.after s.base w_after.history)
+
+    cached_stays : (one : Option PrefCached) → IfSome one (IsOfPrefix r.meanings.after s.base w.history) → IsOfNow one
+    cached_stays one of = IfSome_then one of (λ c of. rw own.adds (IsOfPrefix-append r.meanings.after s.base w.history more c of))
+
+    cache_stays : (node : ℕ) (one : Option PrefCached) → slice_get state.shared.caches node ≡ Some one → IsOfNow one
+    cache_stays node one is = cached_stays one (all_found (λ one. IfSome one (IsOfPrefix r.meanings.after s.base w.history)) state.shared.caches node one is keeps.cached)
+
+    published : IsOfNow (published_by call.at it.gave w_after)
+    published =
+        IfSome_then (published_by call.at it.gave w_after)
+        (turn_publishes r s turned kept.knows well.reads well.told keeps.version keeps.quiet it.gave it.turn) (IsOfPrefix-now r.meanings.after s.base w_after.history)
+
+    own_cache : IsOfNow cached_after
+    own_cache = rw it.kept (kept_true r.meanings.after s.base w_after.history cached (published_by call.at it.gave w_after) (cache_stays client.node.0 cached cache) published)
+
+    pub turn_keeps : RunInvariant r s (record { shared = record { world = w_after; caches = caches_after }; clients = clients_after })
     turn_keeps =
         let due : most_of s.folder.count w_after.tally.due ≡ s.folder.most = own.due s.folder.count ∙ keeps.due in
         record {
@@ -289,4 +340,8 @@ module _ (r : PrefRules) {M : Type 0} (s : Store Value M) (unplanned : s.deaths 
           deaths = λ before e behind is dead. never (sym (none_at dies w_after.history (length before) e alive_after (rw is (found_between before e behind))) ∙ dead);
           left = rw (own.deaths, peace.deaths) (All-nil (Contains s.deaths));
           built = rw own.adds (none_in_both comes_later w.history more keeps.built own.built);
+          quiet = turn_quiet r s turned it.gave it.turn kept.knows keeps.quiet (living r s turned peace);
+          version = version_counts r s turned it.gave it.turn keeps.version;
+          cached = all_set IsOfNow state.shared.caches client.node.0 cached_after own_cache (λ other one apart is. cache_stays other one is);
+          homes = rw (length-set state.shared.caches client.node.0 cached_after) (homes_on state.clients place client now found same.node (length state.shared.caches) keeps.homes);
         }

@@ -81,10 +81,10 @@ module _ {V T M : Type 0} (r : Rules V T) (I : V → Type 0) (s : Store V M) whe
           → IfSome (plan_at at) (λ plan. MayWrite r I s t.world.history plan) → KeptBy e
       row_keeps_main (renames {plan = plan}) comes k may =
           let known = k.contents told in
-          let due = subst (λ rest. IsDue r s t.world.history (record { change = plan.change; text = record { written = plan.text.written; rest = rest } })) k.plan.nothing_left known.due in
+          let due = subst (λ rest. IsDue r s t.world.history (record { change = plan.change; value = plan.value; text = record { written = plan.text.written; rest = rest } })) k.plan.nothing_left known.due in
           let now = ap (λ (c : Contents). c.main) (comes.used.folder told) ∙ ap (λ scratch. Some (scratch_bytes scratch)) known.scratch in
           main_change r I s t.world.folder t.world_after.folder t.world.history (record { who = t.call.id; kind = plan.change }) plan.text.written (ap is_change k.plan.asked.is)
-          (row_fits r s t told lives rise kept.legal renames comes k).0 (writes_due r I s t.world.history t.call.id plan.change plan.text.written due may) now kept
+          (row_fits r s t told lives rise kept.legal renames comes k).0 (writes_due r I s t.world.history t.call.id (record { kind = plan.change; value = plan.value }) plan.text.written due may) now kept
       row_keeps_main (acknowledges {ending = Changed place}) comes k may = main_stays comes refl refl (row_fits r s t told lives rise kept.legal (acknowledges {ending = Changed place}) comes k)
       row_keeps_main (acknowledges {ending = Kept edit}) comes k may = main_stays comes refl refl (row_fits r s t told lives rise kept.legal (acknowledges {ending = Kept edit}) comes k)
       row_keeps_main other comes k may = main_stays comes refl refl (row_fits r s t told lives rise kept.legal other comes k)

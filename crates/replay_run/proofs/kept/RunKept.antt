@@ -1,5 +1,5 @@
 -- What a run keeps of main: the history is lawful, main is what it comes to, and what a client writes may be main.
-use Rattle.std.proofs.Common.{◌≡◌, ◌∙◌, ◌<◌, ◌^◌, inl, inr, ℕ, true, List, [], ◌∷◌, All, Option, Some, None, IfSome, refl, sym, ap, ne_eqb, arith, slice_get}
+use Rattle.std.proofs.Common.{◌≡◌, ◌∙◌, ◌<◌, ◌^◌, inl, inr, ℕ, true, List, [], ◌∷◌, All, length, Option, Some, None, IfSome, refl, sym, ap, ne_eqb, arith, slice_get}
 use Rattle.std.proofs.lemmas.Bool.{OnTrue_at}
 use Rattle.std.proofs.lemmas.List.Elements.{All-append, All-cons, All-nil}
 use Rattle.store_traits.specs.declared.ids.CallId.{CallId}
@@ -16,29 +16,31 @@ use Rattle.shelf.specs.Base.{HasItsBase}
 use Rattle.shelf.specs.Kept.{KeptMain}
 use Rattle.shelf.proofs.DeathLemmas.{has_not_died}
 use Rattle.shelf.proofs.LegalLemmas.{Legal-empty}
-use Rattle.step_table.specs.Calls.{Reply}
+use Rattle.step_table.specs.Caching.{found}
+use Rattle.step_table.specs.Calls.{Read, Reply, Update}
 use Rattle.step_table.specs.World.{Turned}
 use Rattle.step_table.specs.declared.progress.Progress.{Progress}
 use Rattle.node_core.specs.Ready.{MayWrite, plan_at}
 use Rattle.node_core.proofs.SparingLemmas.{turn_spares}
 use Rattle.script_lang.specs.Asked.{Asked}
-use Rattle.script_lang.specs.declared.run_line.Act.{Act}
-use Rattle.script_lang.specs.declared.run_line.Act.TheVariants as act
+use Rattle.script_lang.specs.declared.plan.run_line.Act.{Act}
+use Rattle.replay_run.specs.Answering.{behind_look}
 use Rattle.replay_run.specs.ClientInvariant.{CallInvariant}
 use Rattle.replay_run.specs.Lines.{Asks}
 use Rattle.replay_run.specs.PrefsBasis.{prefs_basis}
 use Rattle.replay_run.specs.RunInvariant.{ReadsWell, RunInvariant}
-use Rattle.replay_run.specs.RunState.{Client, RunState, act_now, call_now}
-use Rattle.replay_run.specs.Settings.{Change, PrefCall, PrefRules, PrefWorld, Value}
+use Rattle.replay_run.specs.RunState.{Client, NodeView, RunState, act_now, act_of, call_now}
+use Rattle.replay_run.specs.Settings.{Change, PrefAsk, PrefCached, PrefCall, PrefRules, PrefWorld, Value}
 use Rattle.replay_run.specs.Start.{start_of}
-use Rattle.replay_run.specs.Steps.{StepsAt, StepsBy, TakesTurn}
+use Rattle.replay_run.specs.Steps.{StepsAt, TakesTurn}
 use Rattle.replay_run.specs.Typed.{AreSteps, IsTypedAct}
 use Rattle.replay_run.proofs.keeping.BehindTurns.{Behind, behind, behind_same, blocked, ended, moved}
 use Rattle.replay_run.proofs.keeping.CallKept.{asks_keep, call_kept}
 use Rattle.replay_run.proofs.keeping.Peaceful.{Peaceful, is_peaceful}
+use Rattle.replay_run.proofs.keeping.StepCases.{StepCase, looks, rests, step_case, turns}
 use Rattle.replay_run.proofs.keeping.StepsKeep.{new_from, start_keeps, steps_keep}
 use Rattle.replay_run.proofs.kept.MainKept.{turn_keeps_main}
-use Rattle.replay_run.proofs.kept.PlansKept.{ReadsValues, plan_stays, reads_well, turn_keeps_may}
+use Rattle.replay_run.proofs.kept.PlansKept.{IsTypedAsk, ReadsValues, plan_stays, reads_fresh, reads_well, turn_keeps_may}
 use Rattle.replay_run.proofs.kept.RowFits.{FaultsRise}
 use Rattle.replay_run.proofs.lists.SetLemmas.{found_then}
 use Rattle.replay_run.proofs.lists.SetViews.{all_found}
@@ -54,6 +56,10 @@ values_of_settings s low =
       absent = record { rising = tt; keys = All-nil _; values = All-nil _ };
       made = λ edit v new steps is makes. IsMap-after_steps edit v new steps is makes;
     }
+
+typed_ask : (ask : PrefAsk) → IsTypedAct (act_of ask) → IsTypedAsk AreSteps ask
+typed_ask (Update edit) typed = typed
+typed_ask Read typed = typed
 
 module _ (r : PrefRules) {M : Type 0} (s : Store Value M) where
   -- what the call writes may be main
@@ -74,11 +80,11 @@ module _ (r : PrefRules) {M : Type 0} (s : Store Value M) where
 
   -- a session whose base is what main reads as starts so
   pub start_keeps_main : HasItsBase r.reads r.absent s → s.folder.most ≡ Some 0 → (before : List Asked) (tally : Tally) (homes : List NodeId) → tally.count ≡ s.folder.count → most_of s.folder.count tally.due ≡ s.folder.most
-      → KeptState (start_of before tally s homes)
+      → All (λ home. home.0 < length s.nodes) homes → KeptState (start_of before tally s homes)
   unfolding edition_of folds.main_of
-  start_keeps_main base most before tally homes counted due =
+  start_keeps_main base most before tally homes counted due declared =
       record {
-        run = start_keeps r s most before tally homes counted due;
+        run = start_keeps r s most before tally homes counted due declared;
         told = refl;
         main = record { legal = Legal-empty r.meanings s; main = refl; base = base; changed = λ some. absurd (some refl) };
         clients = λ place client found. let new = new_from before 0 homes place client found in rw new.is (record { typed = All-nil IsTypedAct; writes = tt });
@@ -109,8 +115,14 @@ module _ (r : PrefRules) {M : Type 0} (s : Store Value M) where
       abbrev w_after : PrefWorld
       w_after = new.shared.world
 
+      abbrev view : NodeView
+      view = record { world = w; kept = it.kept }
+
+      abbrev view_after : NodeView
+      view_after = record { world = w_after; kept = it.kept_after }
+
       well : ReadsWell r s w
-      well = record { told = k.told; reads = reads_well r IsMap AreSteps s values w (λ told. k.main) }
+      well = record { told = k.told; reads = reads_well r IsMap AreSteps s values w (λ told. k.main); fresh = reads_fresh r.meanings s w.history k.main.legal }
 
       run_after : RunInvariant r s new
       run_after = steps_keep r s unplanned most place old new it well k.run
@@ -128,15 +140,15 @@ module _ (r : PrefRules) {M : Type 0} (s : Store Value M) where
         own : KeptClient w_after it.client_after
         others : (other : ℕ) (c : Client) → (other ≡ place → ⊥) → slice_get old.clients other ≡ Some c → KeptClient w_after c
 
-      module _ (edit : Change) (asked : act_now it.client ≡ Some (act.Update edit)) (turn : TakesTurn r s edit it.client old.shared it.client_after new.shared) where
+      module _ (ask : PrefAsk) (asked : act_now it.client ≡ Some (act_of ask)) (turn : TakesTurn r s (call_now it.client ask) it.client view it.client_after view_after) where
         abbrev call : PrefCall
-        call = call_now it.client edit
+        call = call_now it.client ask
 
         abbrev turned : Turned Value Change
         turned = record { world = w; call = call; world_after = w_after; call_after = turn.call_after }
 
         kept : CallInvariant r s it.client w call
-        kept = call_kept r s old place it.client it.was k.run edit asked
+        kept = call_kept r s old place it.client it.was k.run ask asked
 
         -- no call of the folder fails
         rise : FaultsRise r s turned
@@ -145,15 +157,15 @@ module _ (r : PrefRules) {M : Type 0} (s : Store Value M) where
         may : MayWriteNow w call
         may = by_running it.client.running mine.writes
           where
-            by_running : (running : Option PrefCall) → IfSome running (MayWriteNow w) → MayWriteNow w (call_now (record it.client { running = running }) edit)
+            by_running : (running : Option PrefCall) → IfSome running (MayWriteNow w) → MayWriteNow w (call_now (record it.client { running = running }) ask)
             by_running None it = tt
             by_running (Some running) it = it
 
-        typed : AreSteps kept.edit
-        typed = all_found IsTypedAct it.client.asked _ (act.Update kept.edit) kept.asked mine.typed
+        typed : IsTypedAsk AreSteps kept.ask
+        typed = typed_ask kept.ask (all_found IsTypedAct it.client.asked _ (act_of kept.ask) kept.asked mine.typed)
 
         may_after : MayWriteNow w_after turn.call_after
-        may_after = turn_keeps_may r IsMap AreSteps s values turned turn.gave turn.turn k.told k.main kept.edit typed kept.is_for may
+        may_after = turn_keeps_may r IsMap AreSteps s values turned turn.gave turn.turn k.told k.main kept.ask typed kept.is_for may
 
         own_writes : (gave : Progress (Reply Value)) (c : Client) → Behind it.client turn.call_after gave c → IfSome c.running (MayWriteNow w_after)
         own_writes gave c (ended tells) = tt
@@ -182,15 +194,26 @@ module _ (r : PrefRules) {M : Type 0} (s : Store Value M) where
               others = λ other c apart found. record { typed = (k.clients other c found).typed; writes = others_write other c apart found };
             }
 
-      left : (asked : Option Act) → act_now it.client ≡ asked → StepsBy r s asked it.client old.shared it.client_after new.shared → Left
-      left None is rests = record { told = rw rests.1 k.told; main = rw rests.1 k.main; own = rw (rests.0, rests.1) mine; others = λ other c apart found. rw rests.1 (k.clients other c found) }
-      left (Some (act.Update edit)) is turn = left_by_turn edit is turn
-      left (Some other) is none = absurd none
+      -- a step that is no turn leaves the world
+      left_by_other : view_after ≡ view → KeptClient w it.client_after → Left
+      left_by_other same own =
+          let world = ap (λ (v : NodeView). v.world) same in
+          record { told = rw world k.told; main = rw world k.main; own = rw world own; others = λ other c apart found. rw world (k.clients other c found) }
+
+      -- a read writes nothing
+      behind_its_look : (found : Option PrefCached) → KeptClient w (behind_look it.client found)
+      behind_its_look None = record { typed = mine.typed; writes = tt }
+      behind_its_look (Some one) = record { typed = mine.typed; writes = tt }
+
+      left : StepCase r s it.client view it.client_after view_after → Left
+      left (rests none client same) = left_by_other same (rw client mine)
+      left (turns ask asked turn) = left_by_turn ask asked turn
+      left (looks asked idle look) = left_by_other look.same (rw look.now (behind_its_look (found it.kept w.version)))
 
       -- what is kept of main stays from step to step
       pub steps_keep_main : KeptState new
       steps_keep_main =
-          let it_left = left (act_now it.client) refl it.steps in
+          let it_left = left (step_case r s it.client view it.client_after view_after it.steps) in
           record {
             run = run_after;
             told = it_left.told;

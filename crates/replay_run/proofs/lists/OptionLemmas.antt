@@ -1,5 +1,5 @@
 -- What is found, and what is not.
-use Rattle.std.proofs.Common.{◌≡◌, ◌∙◌, inl, inr, ◌≤◌, ℕ, suc, zero, Bool, false, List, [], ◌∷◌, length, Option, Some, None, slice_get, sym, ap}
+use Rattle.std.proofs.Common.{◌≡◌, ◌∙◌, inl, inr, ◌≤◌, ◌<◌, ℕ, suc, zero, Bool, false, List, [], ◌∷◌, length, Option, Some, None, slice_get, sym, ap, arith}
 use Rattle.std.specs.List.{list_any}
 use Rattle.std.proofs.lemmas.Bool.{or_parts}
 use Rattle.std.proofs.lemmas.Option.{slice_get_cases}
@@ -21,3 +21,7 @@ pub none_at : {X : Type 0} (p : X → Bool) (xs : List X) (place : ℕ) (x : X) 
 none_at p [] place x none found = nothing x found
 none_at p (y ∷ xs) zero x none found = ap p (sym (one_of y x found)) ∙ (or_parts (p y) (list_any p xs) none).0
 none_at p (y ∷ xs) (suc place) x none found = none_at p xs place x (or_parts (p y) (list_any p xs) none).1 found
+
+-- within the list there is an element
+pub there : {X : Type 0} (xs : List X) (n : ℕ) → n < length xs → (x : X) × (slice_get xs n ≡ Some x)
+there xs n within = elim (slice_get_cases xs n).1 [ inl found ↦ (found.0, found.2) | inr past ↦ absurd (omega (arith, within, past.0)) ]

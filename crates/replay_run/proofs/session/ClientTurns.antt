@@ -1,91 +1,124 @@
--- What a client comes to by a turn of its call.
-use Rattle.std.proofs.Common.{◌≡◌, ◌∙◌, inl, inr, ◌⊎◌, ◌+◌, ◌++◌, ◌∷◌, ℕ, true, false, IfSome, OnOk, IsTrue, [], append-nil, length, map, Option, Some, None, option_map, slice_get, vec_len, refl, sym, ap, subst, Result, Ok, Err, arith}
-use Rattle.std.specs.Borrow.{Bor}
-use Rattle.std.specs.List.{list_any}
+-- What a client comes to by a turn of its call, or by a look.
+use Rattle.std.proofs.Common.{◌≡◌, ◌∙◌, ◌⊎◌, ◌≤◌, ◌<◌, ◌+◌, ◌++◌, ◌∷◌, ℕ, true, false, IfSome, OnOk, IsTrue, [], append-nil, inl, inr, length, map, Option, Some, None, option_map, slice_get, unwrap_or, vec_len, refl, sym, ap, subst, Result, Ok, Err, arith}
 use Rattle.std.proofs.lemmas.List.{length-map, map_push}
-use Rattle.std.proofs.lemmas.Option.{slice_get-map}
+use Rattle.std.proofs.lemmas.Option.{slice_get-map, slice_get_within}
 use Rattle.store_traits.specs.declared.codec.Codec as codec_trait
+use Rattle.store_traits.specs.declared.given.Given.{Given}
 use Rattle.store_traits.specs.declared.ids.CallId.{CallId}
 use Rattle.store_traits.specs.declared.transform.Transform as transform_trait
-use Rattle.store_traits.specs.declared.update_error.UpdateError.{UpdateError}
 use Rattle.folder_disk.specs.declared.folder.Folder as folder_trait
 use Rattle.folder_disk.specs.declared.mem_folder.MemFolder.{MemFolder}
 use Rattle.prefs_proto.specs.declared.prefs_codec.PrefsCodec.{PrefsCodec}
 use Rattle.prefs_text.specs.AnswerView.{line_seen}
 use Rattle.prefs_text.specs.declared.answer_line.AnswerLine.{AnswerLine}
+use Rattle.prefs_text.specs.declared.seen.AnswerSeen.TheVariants as seen
 use Rattle.shelf.specs.AddsNode.{is_among}
 use Rattle.shelf.specs.declared.shelf.Shelf.{Shelf}
 use Rattle.shelf.specs.declared.store.Store.{Store}
-use Rattle.shelf.specs.Entries.{is_death}
-use Rattle.shelf.specs.ShelfSeen.{ShelfSeen, shelf_seen}
+use Rattle.shelf.specs.ShelfSeen.{shelf_seen}
 use Rattle.shelf.proofs.Bools.{never}
-use Rattle.shelf.proofs.DeathLemmas.{has_not_died}
-use Rattle.step_table.specs.Calls.{Reply, First, Update, is_gone, replied}
+use Rattle.step_table.specs.Caching.{found, published_by}
+use Rattle.step_table.specs.Calls.{First, Gave, Read, Reply, Update, is_gone}
 use Rattle.step_table.specs.Effects.{Effect, FolderUse, SparesFolder, Unused, Served, Faulted, Uses}
 use Rattle.step_table.specs.Requests.{call_of}
 use Rattle.step_table.specs.Turn.{Turn}
 use Rattle.step_table.specs.World.{Turned, begin}
 use Rattle.step_table.specs.declared.progress.Progress.{Progress}
 use Rattle.step_table.specs.declared.progress.Progress.TheVariants.{Moved, Blocked, Ended}
-use Rattle.node_core.specs.Knows.{Knows}
-use Rattle.node_core.specs.Step.{MayStep, TurnFrom}
-use Rattle.node_core.specs.Steps.{StaysIfBlocked}
-use Rattle.node_core.specs.Views.{state_seen, turned}
+use Rattle.node_core.specs.Looking.{LooksAt}
+use Rattle.node_core.specs.Ready.{Equipped}
 use Rattle.node_core.proofs.KeepingLemmas.{turn_stays}
 use Rattle.node_core.proofs.MovingLemmas.{moved_runs}
-use Rattle.node_core.proofs.SparingLemmas.{owned_waits}
-use Rattle.script_lang.specs.declared.run_line.Act.{Act}
-use Rattle.script_lang.specs.declared.run_line.Act.TheVariants as act
+use Rattle.script_lang.specs.declared.plan.run_line.Act.{Act}
+use Rattle.script_lang.specs.declared.plan.run_line.Act.TheVariants as act
 use Rattle.replay_run.specs.declared.client.Client as own
 use Rattle.replay_run.specs.declared.prefs_parts.PrefsParts.{PrefsParts}
-use Rattle.replay_run.specs.Answering.{behind_turn}
+use Rattle.replay_run.specs.declared.running.Reply as own_reply
+use Rattle.replay_run.specs.declared.running.Running.{Running}
+use Rattle.replay_run.specs.declared.task.Task.{Task}
+use Rattle.replay_run.specs.declared.task.Task.TheVariants as task
+use Rattle.replay_run.specs.Answering.{behind_look, behind_turn, client_answered}
 use Rattle.replay_run.specs.ClientInvariant.{CallInvariant}
-use Rattle.replay_run.specs.ClientSteps.{AnswersBy, IsAnswered, IsItsCall, MayGo, Spares}
-use Rattle.replay_run.specs.RunState.{Client, act_now, call_now}
-use Rattle.replay_run.specs.SessionView.{EquippedIn, IsEquipped, Running, client_seen, rules_in, shared_in, store_in, update_seen}
-use Rattle.replay_run.specs.Settings.{Change, PrefCall, PrefRules, Value}
-use Rattle.replay_run.specs.Steps.{ClientSteps, StepsBy}
-use Rattle.replay_run.proofs.keeping.BehindTurns.{client_answered, client_on, line_of}
+use Rattle.replay_run.specs.ClientSteps.{AnswersBy, IsAnswered, MayGo, MayTurn, Spares}
+use Rattle.replay_run.specs.RunningSteps.{CallMayStep, CallSteps, replied_so}
+use Rattle.replay_run.specs.RunState.{Client, NodeView, act_now, act_of, call_now, new_call}
+use Rattle.replay_run.specs.SessionView.{EquippedIn, client_seen, rules_in, running_seen, store_in, task_seen, world_in}
+use Rattle.replay_run.specs.Settings.{Change, PrefAsk, PrefCached, PrefCall, PrefRules, Value}
+use Rattle.replay_run.specs.Steps.{ClientSteps, ReadSteps, StepsBy, TakesTurn, kept_behind}
+use Rattle.replay_run.proofs.keeping.BehindTurns.{client_on, line_of}
 use Rattle.replay_run.proofs.keeping.Peaceful.{never_due}
+use Rattle.replay_run.proofs.lists.OptionLemmas.{one_of}
 
--- what it is at is the edit behind those that are answered
-pub act_seen : (client : own.Client) → act_now (client_seen client) ≡ option_map (λ (edit : Bor Change). act.Update edit.now) (slice_get client.asked.items (vec_len client.answered))
+-- what it is at is the task behind those that are answered
+pub act_seen : (client : own.Client) → act_now (client_seen client) ≡ option_map task_seen (slice_get client.asked.items (vec_len client.answered))
 act_seen client =
-    let update : Bor Change → Act = λ edit. act.Update edit.now in
-    ap (λ n. slice_get (client_seen client).asked n) (length-map client.answered.items line_seen ∙ sym client.answered.ok.0) ∙ slice_get-map update client.asked.items (vec_len client.answered)
+    ap (λ n. slice_get (client_seen client).asked n) (length-map client.answered.items line_seen ∙ sym client.answered.ok.0) ∙ slice_get-map task_seen client.asked.items (vec_len client.answered)
+
+-- what a task asks for
+abbrev pub ask_of : Task → PrefAsk
+ask_of (task.Update edit) = Update edit.now
+ask_of task.Read = Read
+
+task_asks : (t : Task) → act_of (ask_of t) ≡ task_seen t
+task_asks (task.Update edit) = refl
+task_asks task.Read = refl
 
 -- two facts of a result that is Ok, together
 pub both_ok : {A E P Q R : Type 0} (r : Result A E) → OnOk r P → OnOk r Q → (P → Q → R) → OnOk r R
 both_ok (Ok a) p q then = then p q
 both_ok (Err e) p q then = tt
 
-abbrev GoesOn : Progress (Result ℕ UpdateError) → Type 0
-GoesOn gave = (gave ≡ Moved) ⊎ (gave ≡ Blocked)
+-- a call that has not ended goes on
+abbrev pub goes : Progress (Reply Value) → Type 0
+goes (Ended reply) = ⊥
+goes other = Unit {0}
 
-not_ended : (answer : Result ℕ UpdateError) → GoesOn (Ended answer) → ⊥
-not_ended answer so =
+pub not_ended : (gave : Progress own_reply.Reply) → ((gave ≡ Moved) ⊎ (gave ≡ Blocked)) → goes (replied_so gave)
+not_ended Moved so = tt
+not_ended Blocked so = tt
+not_ended (Ended reply) so =
     elim so [
-      | inl moved ↦ (let no : ◌≡◌ {A = Progress (Result ℕ UpdateError)} (Ended answer) Moved = moved in cc)
-      | inr blocked ↦ (let no : ◌≡◌ {A = Progress (Result ℕ UpdateError)} (Ended answer) Blocked = blocked in cc)
+      | inl moved ↦ (let no : ◌≡◌ {A = Progress own_reply.Reply} (Ended reply) Moved = moved in cc)
+      | inr blocked ↦ (let no : ◌≡◌ {A = Progress own_reply.Reply} (Ended reply) Blocked = blocked in cc)
     ]
 
-blocked_so : (gave : Progress (Result ℕ UpdateError)) → {V : Type 0} → ◌≡◌ {A = Progress (Reply V)} (replied gave) Blocked → gave ≡ Blocked
-blocked_so Blocked is = refl
-blocked_so Moved is = cc
-blocked_so (Ended answer) is = cc
-
 module _ (r : PrefRules) {M : Type 0} (s : Store Value M) (t : Turned Value Change) where
-  -- a call that has not ended goes on
-  pub still_on : (gave : Progress (Result ℕ UpdateError)) → Turn r s t (replied gave) → is_gone t.call.at ≡ false → GoesOn gave → is_gone t.call_after.at ≡ false
+  still_on : (gave : Progress (Reply Value)) → Turn r s t gave → is_gone t.call.at ≡ false → goes gave → is_gone t.call_after.at ≡ false
   still_on Moved turn running so = moved_runs r s t turn
   still_on Blocked turn running so = ap (λ (c : PrefCall). is_gone c.at) (turn_stays r s t turn).1 ∙ running
-  still_on (Ended answer) turn running so = absurd (not_ended answer so)
+  still_on (Ended answer) turn running so = absurd so
 
-  -- where another owns the lock, the call waits
-  pub lock_waits : list_any (λ e. is_death e.kind) t.world.history ≡ false → t.world.deaths ≡ [] → (other : CallId) (gave : Progress (Result ℕ UpdateError)) → Turn r s t (replied gave) → Knows r s t.world t.call
-      → t.world.owner ≡ Some other → (other ≡ t.call.id → ⊥) → gave ≡ Blocked
-  lock_waits alive none other gave turn knows owned apart =
-      blocked_so gave (owned_waits r s t (replied gave) turn knows (has_not_died t.call.id.node (begin t).call.since t.world.history alive) (rw none refl) other owned apart)
+pub goes_on : (client : Client) (call : PrefCall) (gave : Progress (Reply Value)) → goes gave → behind_turn client call gave ≡ Some (client_on client call)
+goes_on client call Moved so = refl
+goes_on client call Blocked so = refl
+goes_on client call (Ended answer) so = absurd so
+
+-- behind a turn or a look it does not matter which call the client had, so it may put that aside first
+module _ (client : own.Client) (aside : Option Running) where
+  abbrev pub at_rest : Client
+  at_rest = client_seen (record client { running = aside })
+
+  turn_same : (call : PrefCall) (gave : Progress (Reply Value)) → behind_turn at_rest call gave ≡ behind_turn (client_seen client) call gave
+  turn_same call Moved = refl
+  turn_same call Blocked = refl
+  turn_same call (Ended answer) = refl
+
+  look_same : (seen : Option PrefCached) → behind_look at_rest seen ≡ behind_look (client_seen client) seen
+  look_same None = refl
+  look_same (Some kept) = refl
+
+-- there are fewer answers than calls
+pub fewer_answers : (client : own.Client) (task : Task) (most : ℕ) → slice_get client.asked.items (vec_len client.answered) ≡ Some task → vec_len client.asked ≤ most → vec_len client.answered < most
+fewer_answers client task most found few = let within = slice_get_within client.asked.items (vec_len client.answered) task found in omega (arith, within, few, client.asked.ok.0)
+
+-- what a look found is told
+pub look_found : (client after : own.Client) (seen : Option PrefCached) (given : Given Value) → LooksAt seen (Ok (Some given)) → IsAnswered client (Gave given.edition given.value.value) after → client_seen after ≡ behind_look (client_seen client) seen
+look_found client after None given it answered = absurd it
+look_found client after (Some kept) given it answered =
+    let id = (new_call (client_seen client) Read).id in
+    let told : client_seen after ≡ client_answered (client_seen client) id (seen.Read given.edition given.value.value) =
+    sym (one_of (client_answered (client_seen client) id (seen.Read given.edition given.value.value)) (client_seen after) (answered (new_call (client_seen client) Read) refl)) in
+    told ∙ (ap (λ edition. client_answered (client_seen client) id (seen.Read edition given.value.value)) it.edition ∙ ap (λ value. client_answered (client_seen client) id (seen.Read kept.edition value)) it.value)
 
 -- no call of the folder fails where none is to
 module _ (t : Turned Value Change) (e : Effect Value Change) (told : IsTrue t.world.told) (planned : t.world.tally.due.planned ≡ []) (fuses : t.world.tally.due.fuses ≡ []) where
@@ -95,103 +128,99 @@ module _ (t : Turned Value Change) (e : Effect Value Change) (told : IsTrue t.wo
   spares_by (Faulted request) it = never (sym ((it.tally.due told).failed ∙ never_due (call_of request) t.world.tally.due planned fuses))
 
 module _ {c : codec_trait.Ghosts PrefsCodec Value} {t : transform_trait.Ghosts Change Value} {f : folder_trait.Ghosts MemFolder} where
+  -- a client is equipped as its call is
+  pub on_equipped : (shelf : Shelf (PrefsParts MemFolder) PrefsCodec Change MemFolder Value c t f) (client : own.Client) (call : Running) → client.running ≡ Some call → Equipped c t f (running_seen call).at (shelf_seen shelf) → EquippedIn shelf client
+  on_equipped shelf client call runs it = subst (λ running. IfSome running (λ call. Equipped c t f (running_seen call).at (shelf_seen shelf))) (sym runs) it
+
+  -- a call that has taken no lock needs no room
+  first_equipped : (shelf : Shelf (PrefsParts MemFolder) PrefsCodec Change MemFolder Value c t f) (ask : PrefAsk) → Equipped c t f (First ask) (shelf_seen shelf)
+  first_equipped shelf ask = record { entries = omega arith; room = tt; may = λ told. tt }
+
+  module _ (shelf : Shelf (PrefsParts MemFolder) PrefsCodec Change MemFolder Value c t f) (client : own.Client) (may : MayGo client shelf) (t' : Task) (found : slice_get client.asked.items (vec_len client.answered) ≡ Some t') where
+    pub asked : act_now (client_seen client) ≡ Some (act_of (ask_of t'))
+    asked = act_seen client ∙ (ap (option_map task_seen) found ∙ ap Some (sym (task_asks t')))
+
+    -- the call that it is at may take its turn, once it is put aside
+    module _ (aside : Option Running) (none : aside ≡ None) (call : Running) where
+      may_turn : running_seen call ≡ call_now (client_seen client) (ask_of t') → Equipped c t f (running_seen call).at (shelf_seen shelf) → MayTurn (record client { running = aside }) call shelf
+      may_turn is equipped =
+          let kept = may.call (ask_of t') asked in
+          record {
+            idle = none;
+            node = may.node;
+            its =
+                subst (CallInvariant (rules_in shelf) (store_in shelf) (at_rest client aside) (world_in shelf)) (sym is)
+                (record { ask = kept.ask; asked = kept.asked; id = kept.id; is_for = kept.is_for; knows = kept.knows; goes_on = kept.goes_on });
+            equipped = equipped;
+            planned = may.planned;
+            fuses = may.fuses;
+          }
+
+      -- the one that runs
+      pub running_may : client.running ≡ Some call → MayTurn (record client { running = aside }) call shelf
+      running_may runs = may_turn (rw runs refl) (subst (λ running. IfSome running (λ call. Equipped c t f (running_seen call).at (shelf_seen shelf))) runs may.equipped)
+
+      -- or a new one
+      pub new_may : client.running ≡ None → running_seen call ≡ new_call (client_seen client) (ask_of t') → MayTurn (record client { running = aside }) call shelf
+      new_may idle is = may_turn (rw idle is) (rw is (first_equipped shelf (ask_of t')))
+
   -- the turn is the client's step
-  pub takes : (old new : Shelf (PrefsParts MemFolder) PrefsCodec Change MemFolder Value c t f) (client client_after : own.Client) (call call_after : Running) (edit : Change) → act_now (client_seen client) ≡ Some (act.Update edit) → update_seen call ≡ call_now (client_seen client) edit
-      → IsTrue f.told → (shared_in old).world.tally.due.planned ≡ [] → (shared_in old).world.tally.due.fuses ≡ []
-      → (gave : Progress (Result ℕ UpdateError)) → TurnFrom c t f call.origin (state_seen call.state) (shelf_seen old) gave call_after.origin (state_seen call_after.state) (shelf_seen new)
-      → behind_turn (client_seen client) (update_seen call_after) (replied gave) ≡ Some (client_seen client_after)
-      → ClientSteps (rules_in old) (store_in old) (client_seen client) (shared_in old) (client_seen client_after) (shared_in new)
-  takes old new client client_after call call_after edit asked seen told planned fuses gave turn now =
-      let seen_turn : PrefCall → Turned Value Change = λ call. record { world = (shared_in old).world; call = call; world_after = (shared_in new).world; call_after = update_seen call_after } in
-      let its : Turn (rules_in old) (store_in old) (seen_turn (call_now (client_seen client) edit)) (replied gave) = subst (λ call. Turn (rules_in old) (store_in old) (seen_turn call) (replied gave)) seen turn in
-      subst (λ o. StepsBy (rules_in old) (store_in old) o (client_seen client) (shared_in old) (client_seen client_after) (shared_in new)) (sym asked)
-      (record {
-        call_after = update_seen call_after;
-        gave = replied gave;
-        turn = its;
-        spares = spares_by (begin (seen_turn (call_now (client_seen client) edit))) its.effect told planned fuses its.effect.folder its.comes.used;
-        now = now;
-      })
+  module _ (shelf : Shelf (PrefsParts MemFolder) PrefsCodec Change MemFolder Value c t f) (client client_after : own.Client) (aside : Option Running) (view view_after : NodeView) (call : Running)
+      (turn : TakesTurn (rules_in shelf) (store_in shelf) (running_seen call) (at_rest client aside) view (client_seen client_after) view_after) where
+    taken : TakesTurn (rules_in shelf) (store_in shelf) (running_seen call) (client_seen client) view (client_seen client_after) view_after
+    taken = record { call_after = turn.call_after; gave = turn.gave; turn = turn.turn; spares = turn.spares; now = sym (turn_same client aside turn.call_after turn.gave) ∙ turn.now; kept = turn.kept }
 
-  -- a client that has nothing to do stays as it is
-  pub rests : (old : Shelf (PrefsParts MemFolder) PrefsCodec Change MemFolder Value c t f) (client : own.Client) → act_now (client_seen client) ≡ None → ClientSteps (rules_in old) (store_in old) (client_seen client) (shared_in old) (client_seen client) (shared_in old)
-  rests old client idle = subst (λ o. StepsBy (rules_in old) (store_in old) o (client_seen client) (shared_in old) (client_seen client) (shared_in old)) (sym idle) (refl, refl)
+    abbrev By : Option Act → Type 0
+    By o = StepsBy (rules_in shelf) (store_in shelf) o (client_seen client) view (client_seen client_after) view_after
 
-  -- the call is equipped, whether it ran or is a new one
-  pub its_equipped : (shelf : Shelf (PrefsParts MemFolder) PrefsCodec Change MemFolder Value c t f) (client : own.Client) (edit : Change) (call : Running) → IsItsCall client edit call → EquippedIn shelf client → IsEquipped c t f (shelf_seen shelf) call
-  its_equipped shelf client edit call it equipped =
-      elim it.begun [
-        | inl runs ↦ (rw runs at equipped)
-        | inr new ↦ (
-            let at : state_seen call.state ≡ First (Update edit) = ap (λ (c : PrefCall). c.at) it.seen ∙ rw new.0 refl in
-            record { equipped = rw at (record { entries = omega arith; room = tt; may = λ told. tt }); readiness = λ initialised. never (sym new.1 ∙ initialised) })
-      ]
+    taken_as : (other : PrefCall) → other ≡ running_seen call → TakesTurn (rules_in shelf) (store_in shelf) other (client_seen client) view (client_seen client_after) view_after
+    taken_as other is = subst (λ c. TakesTurn (rules_in shelf) (store_in shelf) c (client_seen client) view (client_seen client_after) view_after) (sym is) taken
 
-  -- one of which no call runs needs nothing
-  pub idle_equipped : (shelf : Shelf (PrefsParts MemFolder) PrefsCodec Change MemFolder Value c t f) (client : own.Client) → client.running ≡ None → EquippedIn shelf client
-  idle_equipped shelf client idle = subst (λ running. IfSome running (IsEquipped c t f (shelf_seen shelf))) (sym idle) tt
+    pub running_steps : (t' : Task) → act_now (client_seen client) ≡ Some (act_of (ask_of t')) → client.running ≡ Some call → ClientSteps (rules_in shelf) (store_in shelf) (client_seen client) view (client_seen client_after) view_after
+    running_steps t' is runs = subst By (sym is) (by_task t')
+      where
+        seen : (client_seen client).running ≡ Some (running_seen call)
+        seen = ap (option_map running_seen) runs
 
-  -- nobody else had a turn since
-  pub may_step : (shelf : Shelf (PrefsParts MemFolder) PrefsCodec Change MemFolder Value c t f) (call : Running) → Knows (rules_in shelf) (store_in shelf) (shared_in shelf).world (update_seen call) → IsEquipped c t f (shelf_seen shelf) call
-      → MayStep c t f call.origin call.initialised (state_seen call.state) (shelf_seen shelf)
-  may_step shelf call knows equipped =
-      record {
-        last = shelf_seen shelf;
-        ready = record { knows = knows; equipped = equipped.equipped };
-        readiness = equipped.readiness;
-        between = record { more = []; grew = sym (append-nil (shelf_seen shelf).list); others = refl; numbers = refl; told = refl; held = λ holds. inl (record { owner = refl; scratch = λ told. refl; outer = refl }) };
-        codec = refl;
-        store = refl;
-        kept = λ holds. inl (record { entries = refl; folder = refl });
-      }
+        by_task : (t' : Task) → By (Some (act_of (ask_of t')))
+        by_task (task.Update edit) = taken_as (call_now (client_seen client) (Update edit.now)) (ap (λ o. unwrap_or o (new_call (client_seen client) (Update edit.now))) seen)
+        by_task task.Read = subst (λ o. ReadSteps (rules_in shelf) (store_in shelf) o (client_seen client) view (client_seen client_after) view_after) (sym seen) taken
 
--- the line of the answer joins the others
-pub answers : (old new : own.Client) (reply : Reply Value) (id : CallId) (line : AnswerLine) → old.running ≡ None → new ≡ record old { answered = new.answered } → new.answered.items ≡ old.answered.items ++ line ∷ []
-    → id ≡ record { node = old.node; client = old.id; number = vec_len old.answered + 1 } → AnswersBy id reply line → IsAnswered old reply new
-answers old new reply id line idle same items its it =
-    λ call is.
-    let many : length (client_seen old).answered ≡ vec_len old.answered = length-map old.answered.items line_seen ∙ sym old.answered.ok.0 in
-    let number : 0 + length (client_seen old).answered + 1 ≡ vec_len old.answered + 1 = omega (arith, many) in
-    let ids : call.id ≡ id = is ∙ (ap (λ n. record { node = old.node; client = old.id; number = n }) number ∙ sym its) in
-    let told : line_of call (line_seen line).answer ≡ line_seen line = rw (ids, it.call, it.poster) refl in
-    let list : (client_seen old).answered ++ line_of call (line_seen line).answer ∷ [] ≡ (client_seen new).answered =
-    ap (λ l. (client_seen old).answered ++ l ∷ []) told ∙ (sym (map_push line_seen old.answered.items line) ∙ ap (λ list. map line_seen list) (sym items)) in
-    let clients : client_answered (client_seen old) (line_of call (line_seen line).answer) ≡ client_seen new =
-    ap (λ list. record (client_seen old) { running = None; answered = list }) list
-    ∙ (ap (λ running. record (client_seen old) { running = option_map update_seen running; answered = (client_seen new).answered }) (sym idle) ∙ sym (ap client_seen same)) in
-    rw it.told (ap Some clients)
+    pub new_steps : (edit : Change) → act_now (client_seen client) ≡ Some (act.Update edit) → client.running ≡ None → running_seen call ≡ new_call (client_seen client) (Update edit)
+        → ClientSteps (rules_in shelf) (store_in shelf) (client_seen client) view (client_seen client_after) view_after
+    new_steps edit is idle new =
+        subst By (sym is) (taken_as (call_now (client_seen client) (Update edit)) (ap (λ o. unwrap_or o (new_call (client_seen client) (Update edit))) (ap (option_map running_seen) idle) ∙ sym new))
 
--- the call goes on
-pub goes_on : (client : Client) (call : PrefCall) (gave : Progress (Result ℕ UpdateError)) → GoesOn gave → behind_turn client call (replied gave) ≡ Some (client_on client call)
-goes_on client call Moved so = refl
-goes_on client call Blocked so = refl
-goes_on client call (Ended answer) so = absurd (not_ended answer so)
+  -- a look is a step, where the version word has the number of raises
+  pub look_steps : (shelf : Shelf (PrefsParts MemFolder) PrefsCodec Change MemFolder Value c t f) (client client_after : own.Client) (aside : Option Running) (kept : Option PrefCached) (version : ℕ) → act_now (client_seen client) ≡ Some act.Read → client.running ≡ None → version ≡ (world_in shelf).version
+      → client_seen client_after ≡ behind_look (at_rest client aside) (found kept version)
+      → ClientSteps (rules_in shelf) (store_in shelf) (client_seen client) (record { world = world_in shelf; kept = kept }) (client_seen client_after) (record { world = world_in shelf; kept = kept })
+  look_steps shelf client client_after aside kept version is idle same now =
+      let view : NodeView = record { world = world_in shelf; kept = kept } in
+      subst (λ o. StepsBy (rules_in shelf) (store_in shelf) o (client_seen client) view (client_seen client_after) view) (sym is)
+      (subst (λ o. ReadSteps (rules_in shelf) (store_in shelf) o (client_seen client) view (client_seen client_after) view) (sym (ap (option_map running_seen) idle))
+      (record { now = now ∙ (look_same client aside (found kept version) ∙ ap (λ n. behind_look (client_seen client) (found kept n)) same); same = refl }))
 
-module _ {c : codec_trait.Ghosts PrefsCodec Value} {t : transform_trait.Ghosts Change Value} {f : folder_trait.Ghosts MemFolder} (old : Shelf (PrefsParts MemFolder) PrefsCodec Change MemFolder Value c t f) (client : own.Client) (edit : Bor Change) (call : Running)
-    (found : slice_get client.asked.items (vec_len client.answered) ≡ Some edit) (its : IsItsCall client edit.now call) (may : MayGo client old) where
-  pub asked : act_now (client_seen client) ≡ Some (act.Update edit.now)
-  asked = act_seen client ∙ ap (option_map (λ (edit : Bor Change). act.Update edit.now)) found
+  module _ (old : Shelf (PrefsParts MemFolder) PrefsCodec Change MemFolder Value c t f) (client : own.Client) (call : Running) (may : MayTurn client call old) where
+    module _ (new : Shelf (PrefsParts MemFolder) PrefsCodec Change MemFolder Value c t f) (after : Running) (gave : Progress (Reply Value)) (steps : CallSteps call old gave after new) where
+      -- the turn of the client, once it is told of
+      pub takes : IsTrue f.told → (now : own.Client) (kept kept_after : Option PrefCached) → behind_turn (client_seen client) (running_seen after) gave ≡ Some (client_seen now) → kept_after ≡ kept_behind kept (published_by (running_seen call).at gave (world_in new))
+          → TakesTurn (rules_in old) (store_in old) (running_seen call) (client_seen client) (record { world = world_in old; kept = kept }) (client_seen now) (record { world = world_in new; kept = kept_after })
+      takes told now kept kept_after is published =
+          let turned : Turned Value Change = record { world = world_in old; call = running_seen call; world_after = world_in new; call_after = running_seen after } in
+          record {
+            call_after = running_seen after;
+            gave = gave;
+            turn = steps.turn;
+            spares = spares_by (begin turned) steps.turn.effect told may.planned may.fuses steps.turn.effect.folder steps.turn.comes.used;
+            now = is;
+            kept = published;
+          }
 
-  pub kept : CallInvariant (rules_in old) (store_in old) (client_seen client) (shared_in old).world (update_seen call)
-  kept = subst (CallInvariant (rules_in old) (store_in old) (client_seen client) (shared_in old).world) (sym its.seen) (may.call edit.now asked)
+      pub spares_now : Spares client old new
+      spares_now other owned apart = steps.spares other owned (λ same. apart (length (client_seen client).answered) (same ∙ may.its.id))
 
-  pub at_home : is_among call.origin.call.node (store_in old).nodes ≡ true
-  at_home = ap (λ (id : CallId). is_among id.node (store_in old).nodes) kept.id ∙ may.node
-
-  pub may_turn : MayStep c t f call.origin call.initialised (state_seen call.state) (shelf_seen old)
-  may_turn = may_step old call kept.knows (its_equipped old client edit.now call its may.equipped)
-
-  module _ (new : Shelf (PrefsParts MemFolder) PrefsCodec Change MemFolder Value c t f) (after : Running) (gave : Progress (Result ℕ UpdateError)) (turn : TurnFrom c t f call.origin (state_seen call.state) (shelf_seen old) gave after.origin (state_seen after.state) (shelf_seen new)) where
-    pub steps_now : IsTrue f.told → (now : own.Client) → behind_turn (client_seen client) (update_seen after) (replied gave) ≡ Some (client_seen now)
-        → ClientSteps (rules_in old) (store_in old) (client_seen client) (shared_in old) (client_seen now) (shared_in new)
-    steps_now told now is = takes old new client now call after edit.now asked its.seen told may.planned may.fuses gave turn is
-
-    pub spares_now : StaysIfBlocked gave (shelf_seen old) (shelf_seen new) → Spares client old new
-    spares_now waits =
-        λ other owned apart.
-        let t = turned f call.origin (state_seen call.state) (shelf_seen old) after.origin (state_seen after.state) (shelf_seen new) in
-        let blocked : gave ≡ Blocked = lock_waits (rules_in old) (store_in old) t old.ledger.no_deaths refl other gave turn kept.knows owned (λ same. apart (length (client_seen client).answered) (same ∙ kept.id)) in
-        subst (λ g. StaysIfBlocked g (shelf_seen old) (shelf_seen new)) blocked waits
-
-    pub goes_still : GoesOn gave → is_gone (state_seen after.state) ≡ false
-    goes_still so = still_on (rules_in old) (store_in old) (turned f call.origin (state_seen call.state) (shelf_seen old) after.origin (state_seen after.state) (shelf_seen new)) gave turn kept.goes_on so
+      -- a call that goes on has what it needs
+      pub equips : goes gave → Equipped c t f (running_seen after).at (shelf_seen new)
+      equips so =
+          (steps.ready (still_on (rules_in old) (store_in old) (record { world = world_in old; call = running_seen call; world_after = world_in new; call_after = running_seen after }) gave steps.turn may.its.goes_on so)).equipped

@@ -12,9 +12,9 @@ use Rattle.prefs_text.specs.Callers.{HasCaller, actor_name}
 use Rattle.prefs_text.specs.EntryText.{EntryHasNames, KindHasNames, PrefEntry, PrefKind}
 use Rattle.shelf.specs.Legal.{Fits}
 use Rattle.shelf.proofs.Bools.{never}
-use Rattle.script_lang.specs.declared.script.Script.{Script}
-use Rattle.script_lang.specs.declared.session_plan.SessionPlan.{SessionPlan}
-use Rattle.script_lang.specs.declared.transcript.Transcript.{Transcript}
+use Rattle.script_lang.specs.declared.plan.script.Script.{Script}
+use Rattle.script_lang.specs.declared.plan.session_plan.SessionPlan.{SessionPlan}
+use Rattle.script_lang.specs.declared.transcripts.transcript.Transcript.{Transcript}
 use Rattle.script_lang.specs.Asked.{home_of, is_actor}
 use Rattle.script_lang.specs.Chronicle.{Chapter}
 use Rattle.script_lang.specs.GoodAnswers.{IsHome}

@@ -1,32 +1,28 @@
--- A client of a session is asked for one more update.
-use Rattle.std.proofs.Common.{◌≡◌, ◌∙◌, ℕ, true, [], ◌∷◌, ◌++◌, map, All, Some, slice_get, slice_set, refl, sym, ap, subst}
-use Rattle.std.specs.Borrow.{Bor}
+-- A client of a session is asked for one more call.
+use Rattle.std.proofs.Common.{◌≡◌, ◌∙◌, ℕ, true, [], ◌∷◌, ◌++◌, map, Some, slice_get, slice_set, refl, sym, ap, subst}
 use Rattle.std.specs.Vec.{with_item}
 use Rattle.std.proofs.lemmas.List.{map_push}
-use Rattle.script_lang.specs.declared.run_line.Act.{Act}
-use Rattle.script_lang.specs.declared.run_line.Act.TheVariants as act
 use Rattle.shelf.specs.AddsNode.{is_among}
 use Rattle.replay_run.specs.declared.client.Client as own
 use Rattle.replay_run.specs.declared.running_session.RunningSession.{RunningSession}
+use Rattle.replay_run.specs.declared.task.Task.{Task}
 use Rattle.replay_run.specs.Lines.{Asks, with_act}
 use Rattle.replay_run.specs.SessionInvariant.{SessionInvariant}
-use Rattle.replay_run.specs.SessionView.{EquippedIn, client_seen, rules_in, state_in, store_in}
-use Rattle.replay_run.specs.Settings.{Change}
+use Rattle.replay_run.specs.SessionView.{EquippedIn, client_seen, rules_in, state_in, store_in, task_seen}
 use Rattle.replay_run.proofs.keeping.CallKept.{asks_keep}
 use Rattle.replay_run.proofs.lists.SetViews.{all_found, all_set}
 use Rattle.replay_run.proofs.session.SessionTurns.{clients_now, seen_at}
 
-module _ (session : RunningSession) (place : ℕ) (client after : own.Client) (edit : Bor Change) (found : slice_get session.clients.items place ≡ Some client) (same : after ≡ record client { asked = after.asked })
-    (asked : after.asked.items ≡ client.asked.items ++ edit ∷ []) where
+module _ (session : RunningSession) (place : ℕ) (client after : own.Client) (task : Task) (found : slice_get session.clients.items place ≡ Some client) (same : after ≡ record client { asked = after.asked })
+    (asked : after.asked.items ≡ client.asked.items ++ task ∷ []) where
   abbrev now : RunningSession
   now = record session { clients = with_item session.clients place after }
 
-  after_seen : client_seen after ≡ with_act (act.Update edit.now) (client_seen client)
+  after_seen : client_seen after ≡ with_act (task_seen task) (client_seen client)
   after_seen =
-      let update : Bor Change → Act = λ edit. act.Update edit.now in
-      ap client_seen same ∙ ap (λ list. record (client_seen client) { asked = list }) (ap (map update) asked ∙ map_push update client.asked.items edit)
+      ap client_seen same ∙ ap (λ list. record (client_seen client) { asked = list }) (ap (map task_seen) asked ∙ map_push task_seen client.asked.items task)
 
-  pub asks_now : Asks place (act.Update edit.now) (state_in session) (state_in now)
+  pub asks_now : Asks place (task_seen task) (state_in session) (state_in now)
   asks_now =
       record {
         client = client_seen client;
@@ -37,7 +33,7 @@ module _ (session : RunningSession) (place : ℕ) (client after : own.Client) (e
   pub asking_keeps : SessionInvariant session → SessionInvariant now
   asking_keeps keeps =
       record {
-        state = asks_keep (rules_in session.shelf) (store_in session.shelf) place (act.Update edit.now) (state_in session) (state_in now) asks_now keeps.state;
+        state = asks_keep (rules_in session.shelf) (store_in session.shelf) place (task_seen task) (state_in session) (state_in now) asks_now keeps.state;
         spare = keeps.spare;
         number = keeps.number;
         nodes =

@@ -7,9 +7,9 @@ use Rattle.std.proofs.lemmas.List.FromFn.{length-enumerate_from}
 use Rattle.std.specs.List.{enumerate_from}
 use Rattle.shelf.specs.Base.{HasItsBase}
 use Rattle.shelf.proofs.EachLemmas.{each_walked}
-use Rattle.script_lang.specs.declared.script.Script.{Script}
-use Rattle.script_lang.specs.declared.session_plan.SessionPlan.{SessionPlan}
-use Rattle.script_lang.specs.declared.transcript.Transcript.{Transcript}
+use Rattle.script_lang.specs.declared.plan.script.Script.{Script}
+use Rattle.script_lang.specs.declared.plan.session_plan.SessionPlan.{SessionPlan}
+use Rattle.script_lang.specs.declared.transcripts.transcript.Transcript.{Transcript}
 use Rattle.script_lang.specs.Chronicle.{Chapter, tally_of}
 use Rattle.script_lang.specs.Keeps.{IsBuiltAct, Keeps, KeepsPlan}
 use Rattle.script_lang.specs.TranscriptView.{SessionSeen}

@@ -1,6 +1,7 @@
 -- The shelf of a script's first session, and the session that begins with it.
-use Rattle.std.proofs.Common.{◌≡◌, ◌∙◌, ◌<◌, ℕ, true, false, All, List, [], ◌∷◌, length, Option, Some, None, refl, sym, ap, subst, arith}
+use Rattle.std.proofs.Common.{◌≡◌, ◌∙◌, ◌<◌, ℕ, true, false, All, List, [], ◌∷◌, length, map, Option, Some, None, refl, sym, ap, subst, arith}
 use Rattle.std.proofs.lemmas.List.Elements.{All-weaker}
+use Rattle.std.proofs.lemmas.List.FromFn.{length-map-range_with_len}
 use Rattle.store_traits.specs.declared.ids.NodeId.{NodeId}
 use Rattle.folder_disk.specs.Contents.{Contents, Gone, Images, Starts}
 use Rattle.folder_disk.specs.contracts.mem_folder.MemFolderFolder.TheImpl as folder
@@ -20,8 +21,9 @@ use Rattle.shelf.specs.Base.{HasItsBase, ReadsAs}
 use Rattle.shelf.specs.Opening.{Opens}
 use Rattle.shelf.specs.ShelfSeen.{ShelfSeen, shelf_seen}
 use Rattle.node_core.specs.Views.{world_seen}
-use Rattle.script_lang.specs.declared.script.Script.{Script}
-use Rattle.script_lang.specs.declared.session_plan.SessionPlan.{SessionPlan}
+use Rattle.value_cache.specs.Cached.{kept_seen}
+use Rattle.script_lang.specs.declared.plan.script.Script.{Script}
+use Rattle.script_lang.specs.declared.plan.session_plan.SessionPlan.{SessionPlan}
 use Rattle.script_lang.specs.Chronicle.{due_of, nodes_of, tally_of}
 use Rattle.script_lang.specs.Keeps.{IsPlain, Keeps}
 use Rattle.replay_run.specs.declared.client.Client as own
@@ -33,7 +35,7 @@ use Rattle.replay_run.specs.RunInvariant.{RunInvariant}
 use Rattle.replay_run.specs.RunState.{RunState}
 use Rattle.replay_run.specs.SessionInvariant.{SessionInvariant}
 use Rattle.replay_run.specs.SessionSteps.{IsOpened, IsStoreOf}
-use Rattle.replay_run.specs.SessionView.{EquippedIn, rules_in, shared_in, state_in, store_in}
+use Rattle.replay_run.specs.SessionView.{EquippedIn, rules_in, state_in, store_in, world_in}
 use Rattle.replay_run.specs.Settings.{Change, PrefStore, Value}
 use Rattle.replay_run.specs.ShelfOpens.{ShelfOpens, first_nodes, with_nodes}
 use Rattle.replay_run.specs.Start.{start_of, world_of}
@@ -76,7 +78,7 @@ module _ (script : Script) (unreplaced : script.start.replace ≡ false) (shelf 
   kept_alone = ap (λ (c : Contents). c.kept) contents ∙ ap (λ (main : Option (List ℕ)). Images (main ∷ [])) (sym (ap (λ (c : Contents). c.main) contents))
 
   -- main stands alone there, as it did in the new folder; the tally is that folder's
-  world_starts : (plan : SessionPlan) → IsPlain plan → (shared_in shelf).world ≡ world_of (tally_of s.folder.count plan) s
+  world_starts : (plan : SessionPlan) → IsPlain plan → world_in shelf ≡ world_of (tally_of s.folder.count plan) s
   world_starts plan plain =
       let now : Contents = mem.contents_of shelf.folder in
       let main : now.main ≡ s.main = starts.main ∙ sym (opens.main refl) in
@@ -105,7 +107,8 @@ module _ (script : Script) (unreplaced : script.start.replace ≡ false) (shelf 
 
 -- the nodes are added, and there are new clients
 module _ (script : Script) (session : RunningSession) (first : SettingsShelf) (count : ℕ) (keeps : Keeps script) (opens : ShelfOpens prefs_basis script first)
-    (added : shelf_seen session.shelf ≡ with_nodes (shelf_seen first) (first_nodes count)) (counted : count ≡ length script.names.nodes) (new : AreNew script.homes session.clients.items) (unused : session.word ≡ 0) where
+    (added : shelf_seen session.shelf ≡ with_nodes (shelf_seen first) (first_nodes count)) (counted : count ≡ length script.names.nodes) (new : AreNew script.homes session.clients.items)
+    (empty : map kept_seen session.caches.items ≡ map (λ node. None) (first_nodes count)) (unused : session.word ≡ 0) where
   abbrev store : PrefStore
   store = store_in session.shelf
 
@@ -117,14 +120,21 @@ module _ (script : Script) (session : RunningSession) (first : SettingsShelf) (c
 
   starts_now : (plan : SessionPlan) → IsPlain plan → state_in session ≡ start_of [] (tally_of store.folder.count plan) store script.homes
   starts_now plan plain =
-      let world : (shared_in session.shelf).world ≡ world_of (tally_of store.folder.count plan) store =
+      let caches : map kept_seen session.caches.items ≡ map (λ node. None) store.nodes = empty ∙ ap (λ (s : Seen). map (λ node. None) s.store.nodes) (sym added) in
+      let world : world_in session.shelf ≡ world_of (tally_of store.folder.count plan) store =
       subst (λ (s : Seen). world_seen folder.ghosts s ≡ world_of (tally_of s.store.folder.count plan) s.store) (sym seen) (opens.starts plan plain) in
-      rw (world, new.seen) refl
+      rw (world, caches, new.seen) refl
 
   at_home : All (λ (home : NodeId). is_among home store.nodes ≡ true) script.homes
   at_home =
       All-weaker (λ (home : NodeId). home.0 < length script.names.nodes) (λ (home : NodeId). is_among home store.nodes ≡ true)
       (λ home below. ap (λ (s : Seen). is_among home s.store.nodes) added ∙ among_first count home (omega (arith, below, counted))) script.homes keeps.homes.declared
+
+  -- there is one for each number of a node
+  numbers_at_home : All (λ (home : NodeId). home.0 < length store.nodes) script.homes
+  numbers_at_home =
+      let many : length store.nodes ≡ length script.names.nodes = ap (λ (s : Seen). length s.store.nodes) added ∙ (length-map-range_with_len (λ number. record { 0 = number }) 0 count ∙ counted) in
+      subst (λ n. All (λ (home : NodeId). home.0 < n) script.homes) (sym many) keeps.homes.declared
 
   session_keeps : SessionInvariant session
   session_keeps =
@@ -134,7 +144,7 @@ module _ (script : Script) (session : RunningSession) (first : SettingsShelf) (c
       record {
         state =
             subst (RunInvariant (rules_in session.shelf) store) (sym start)
-            (start_keeps (rules_in session.shelf) store spare [] (tally_of store.folder.count plan) script.homes refl (rw none (none_planned plan keeps.built.plain ∙ sym spare)));
+            (start_keeps (rules_in session.shelf) store spare [] (tally_of store.folder.count plan) script.homes refl (rw none (none_planned plan keeps.built.plain ∙ sym spare)) numbers_at_home);
         spare = spare;
         number = unused ∙ sym (ap (λ (state : RunState). state.shared.world.version) start);
         nodes = homes_are (λ (home : NodeId). is_among home store.nodes ≡ true) session.clients.items script.homes new.seen at_home;

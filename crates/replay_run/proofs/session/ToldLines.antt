@@ -3,7 +3,7 @@ use Rattle.std.proofs.Common.{◌≡◌, false, List, [], ◌∷◌, append-nil,
 use Rattle.std.specs.List.{list_any}
 use Rattle.shelf.proofs.Bools.{never}
 use Rattle.std.proofs.lemmas.Bool.{or_parts}
-use Rattle.script_lang.specs.declared.run_line.Act.{Act}
+use Rattle.script_lang.specs.declared.plan.run_line.Act.{Act}
 use Rattle.replay_run.specs.declared.client.Client as own
 use Rattle.replay_run.specs.RunState.{Client, act_now, is_busy}
 use Rattle.replay_run.specs.ScriptRun.{lines_of}

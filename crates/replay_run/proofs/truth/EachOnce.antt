@@ -7,8 +7,8 @@ use Rattle.std.proofs.lemmas.Option.{slice_get_cases}
 use Rattle.prefs_text.specs.declared.seen.AnswerLineSeen.{AnswerLineSeen}
 use Rattle.script_lang.specs.Chronicle.{Basis, Chapter}
 use Rattle.script_lang.specs.GoodAnswers.{is_answer_of, is_asked_of}
-use Rattle.script_lang.specs.declared.run_line.Act.{Act}
-use Rattle.script_lang.specs.declared.script.Script.{Script}
+use Rattle.script_lang.specs.declared.plan.run_line.Act.{Act}
+use Rattle.script_lang.specs.declared.plan.script.Script.{Script}
 use Rattle.replay_run.specs.RunState.{Client}
 use Rattle.replay_run.proofs.lists.JoinedLemmas.{all_flat}
 use Rattle.replay_run.proofs.lists.OptionLemmas.{nothing, one_of}

@@ -3,9 +3,9 @@ use Rattle.std.proofs.Common.{◌≡◌, ◌∙◌, List, [], ◌∷◌, length,
 use Rattle.script_lang.specs.Chronicle.{Basis, Chapter, tally_of}
 use Rattle.script_lang.specs.Good.{Good, Scripted, chapters_of}
 use Rattle.script_lang.specs.Keeps.{IsPlain, Keeps}
-use Rattle.script_lang.specs.declared.script.Script.{Script}
-use Rattle.script_lang.specs.declared.session_plan.SessionPlan.{SessionPlan}
-use Rattle.script_lang.specs.declared.transcript.Transcript.{Transcript}
+use Rattle.script_lang.specs.declared.plan.script.Script.{Script}
+use Rattle.script_lang.specs.declared.plan.session_plan.SessionPlan.{SessionPlan}
+use Rattle.script_lang.specs.declared.transcripts.transcript.Transcript.{Transcript}
 use Rattle.script_lang.specs.TranscriptView.{SessionSeen}
 use Rattle.script_lang.proofs.GoodChapters.{ChapterIsGood, good_of_one, one_chapter}
 use Rattle.replay_run.specs.EndInvariant.{EndInvariant}

@@ -7,6 +7,7 @@ use Rattle.std.proofs.lemmas.List.Elements.{All-append, All-cons}
 use Rattle.std.proofs.lemmas.List.Sums.{sum_by-cons}
 use Rattle.std.proofs.lemmas.Option.{slice_get_cases}
 use Rattle.store_traits.specs.declared.ids.CallId.{CallId}
+use Rattle.store_traits.specs.declared.read_error.ReadError.{ReadError}
 use Rattle.store_traits.specs.declared.update_error.UpdateError.{UpdateError}
 use Rattle.store_traits.specs.declared.ids.NodeId.{NodeId}
 use Rattle.store_traits.specs.declared.ids.ClientId.{ClientId}
@@ -19,27 +20,29 @@ use Rattle.prefs_text.specs.declared.seen.AnswerSeen.{AnswerSeen}
 use Rattle.prefs_text.specs.declared.seen.AnswerSeen.TheVariants as seen
 use Rattle.shelf.specs.Entries.{is_any, is_death, is_own, is_update}
 use Rattle.shelf.specs.Acknowledged.{Carries, IsUpdated}
+use Rattle.shelf.specs.Causes.{IsDead, IsUncertain}
 use Rattle.shelf.specs.Images.{is_synced}
 use Rattle.shelf.specs.Places.{is_fault_of}
 use Rattle.shelf.specs.Base.{HasItsBase}
 use Rattle.shelf.proofs.Bools.{never, none_in_both, own_first}
 use Rattle.shelf.proofs.RaiseLemmas.{none_of_fewer}
 use Rattle.shelf.proofs.SameCalls.{itself}
-use Rattle.script_lang.specs.AnswerForms.{answers_update, is_cut, update_error}
+use Rattle.script_lang.specs.AnswerForms.{answers, is_cut, read_error, update_error}
 use Rattle.script_lang.specs.Asked.{is_actor}
 use Rattle.script_lang.specs.Chronicle.{Basis, Chapter}
 use Rattle.script_lang.specs.GoodAnswers.{HasForm, IsAsked, IsHome, IsTold, is_answer_of}
-use Rattle.script_lang.specs.GoodCauses.{HasUpdateCause, IsCaused, IsOwnEdit}
+use Rattle.script_lang.specs.GoodCauses.{HasCauseBy, HasCauseOfRead, HasUpdateCause, IsCaused, IsOwnEdit, is_posted, may_stand}
 use Rattle.script_lang.specs.GoodPosts.{DoesJob, IsDoneBy}
 use Rattle.script_lang.specs.GoodReads.{GivesValue, KeepsFlow}
-use Rattle.script_lang.specs.GoodUpdates.{CarriesEdit, IsDone, has_restart, is_restart}
+use Rattle.script_lang.specs.GoodUpdates.{IsDone, has_restart, is_restart}
 use Rattle.script_lang.specs.Shown.{last_flow, shown_to}
-use Rattle.script_lang.specs.declared.run_line.Act.TheVariants as act
-use Rattle.script_lang.specs.declared.script.Script.{Script}
+use Rattle.script_lang.specs.declared.plan.run_line.Act.{Act}
+use Rattle.script_lang.specs.declared.plan.run_line.Act.TheVariants as act
+use Rattle.script_lang.specs.declared.plan.script.Script.{Script}
 use Rattle.script_lang.specs.Good.{file_seen}
 use Rattle.script_lang.specs.GoodFailures.{IsPlanned, Spares}
 use Rattle.script_lang.proofs.GoodChapters.{ChapterIsGood}
-use Rattle.replay_run.specs.ClientInvariant.{IsUpdateExplained}
+use Rattle.replay_run.specs.ClientInvariant.{IsExplained, IsReadExplained, IsUpdateExplained}
 use Rattle.replay_run.specs.RunInvariant.{IsOfCall, is_later_work}
 use Rattle.replay_run.specs.RunState.{Client, call_at}
 use Rattle.replay_run.specs.Settings.{Change}
@@ -53,12 +56,12 @@ use Rattle.replay_run.proofs.truth.EachOnce.{each_once, filter_none}
 unposted : (P : Type 0) (Q : CallId → Type 0) (poster : Option CallId) → poster ≡ None → P → MatchOption poster P Q
 unposted P Q poster none it = rw none it
 
-module _ (P : UpdateError → Type 0) where
-  some_error : (o : Option UpdateError) (b : Bool) → MatchOption o ⊥ P → (is_some o || b) ≡ true
+module _ {E : Type 0} (P : E → Type 0) where
+  some_error : (o : Option E) (b : Bool) → MatchOption o ⊥ P → (is_some o || b) ≡ true
   some_error None b it = absurd it
   some_error (Some err) b it = refl
 
-  error_holds : (o : Option UpdateError) → MatchOption o ⊥ P → IfSome o P
+  error_holds : (o : Option E) → MatchOption o ⊥ P → IfSome o P
   error_holds None it = tt
   error_holds (Some err) it = it
 
@@ -126,47 +129,113 @@ module _ (b : Basis) (script : Script) (c : Chapter) (k : EndsWell b script c) w
     abbrev it : IsTrueLine b script c c.told.entries before line
     it = true_lines b script c k before line behind is
 
-    abbrev Cause : UpdateError → Type 0
-    Cause err = HasUpdateCause b c before line err it.edit
+    abbrev shown : ℕ
+    shown = shown_to line.call.client c.told.entries before
 
-    carries : CarriesEdit c line it.edit
-    carries = unposted _ _ line.poster it.poster it.asked
+    abbrev UpdateCause : Change → UpdateError → Type 0
+    UpdateCause edit err = HasUpdateCause b c before line err edit
 
-    -- what the rules ask of an answer
-    record IsFine (answer : AnswerSeen) : Type 0 where
-      pub form : answers_update answer ≡ true
+    abbrev ReadCause : ReadError → Type 0
+    ReadCause = HasCauseOfRead b c before line
+
+    abbrev Caused : Act → AnswerSeen → Type 0
+    Caused (act.Update edit) answer = IfSome (update_error answer) (UpdateCause edit)
+    Caused act.Read answer = IfSome (read_error answer) ReadCause
+    Caused other answer = ⊥
+
+    -- what the rules ask of an answer to a call for this
+    record IsFine (asked : Act) (answer : AnswerSeen) : Type 0 where
+      pub form : answers asked answer ≡ true
       pub uncut : is_cut answer ≡ false
+      pub no_post : is_posted answer ≡ false
       pub done : IsDone c line answer
       pub gives : GivesValue b c answer
       pub flow : KeepsFlow c (last_flow line.call.client None before) answer
-      pub caused : IfSome (update_error answer) Cause
+      pub caused : Caused asked answer
 
-    fine : (answer : AnswerSeen) → IsUpdateExplained b.rules c.store c.told.entries (shown_to line.call.client c.told.entries before) line.call it.edit answer → IsFine answer
-    fine (seen.Updated edition) told = record { form = refl; uncut = refl; done = (record { edit = it.edit; carried = carries; updated = told }, restarts_none line.call); gives = tt; flow = tt; caused = tt }
-    fine (seen.Read edition value) told = absurd told
-    fine (seen.Flow edition value) told = absurd told
-    fine (seen.Unchanged edition) told = absurd told
-    fine (seen.Restarted place) told = absurd told
-    fine seen.Cut told = absurd told
-    fine other told = record { form = some_error Cause (update_error other) (is_cut other) told; uncut = refl; done = restarts_none line.call; gives = tt; flow = tt; caused = error_holds Cause (update_error other) told }
+    fine_update : (edit : Change) → Contains c.asked (record { call = line.call; act = act.Update edit }) → (answer : AnswerSeen) → IsUpdateExplained b.rules c.store c.told.entries shown line.call edit answer → IsFine (act.Update edit) answer
+    fine_update edit asked (seen.Updated edition) told =
+        record {
+          form = refl;
+          uncut = refl;
+          no_post = refl;
+          done = (record { edit = edit; carried = unposted _ _ line.poster it.poster asked; updated = told }, restarts_none line.call);
+          gives = tt;
+          flow = tt;
+          caused = tt;
+        }
+    fine_update edit asked (seen.Read edition value) told = absurd told
+    fine_update edit asked (seen.Flow edition value) told = absurd told
+    fine_update edit asked (seen.Unchanged edition) told = absurd told
+    fine_update edit asked (seen.Restarted place) told = absurd told
+    fine_update edit asked seen.Posted told = absurd told
+    fine_update edit asked seen.Cut told = absurd told
+    fine_update edit asked other told =
+        record {
+          form = some_error (UpdateCause edit) (update_error other) (is_cut other) told;
+          uncut = refl;
+          no_post = refl;
+          done = restarts_none line.call;
+          gives = tt;
+          flow = tt;
+          caused = error_holds (UpdateCause edit) (update_error other) told;
+        }
 
-    abbrev answer : IsFine line.answer
-    answer = fine line.answer it.explained
+    fine_read : (answer : AnswerSeen) → IsReadExplained b.rules c.store c.told.entries shown line.call answer → IsFine act.Read answer
+    fine_read (seen.Read edition value) told =
+        record {
+          form = refl;
+          uncut = refl;
+          no_post = refl;
+          done = restarts_none line.call;
+          gives = told;
+          flow = tt;
+          caused = tt;
+        }
+    fine_read (seen.Updated edition) told = absurd told
+    fine_read (seen.Flow edition value) told = absurd told
+    fine_read (seen.Unchanged edition) told = absurd told
+    fine_read (seen.Restarted place) told = absurd told
+    fine_read seen.Posted told = absurd told
+    fine_read seen.Cut told = absurd told
+    fine_read other told =
+        record {
+          form = some_error ReadCause (read_error other) (is_cut other) told;
+          uncut = refl;
+          no_post = refl;
+          done = restarts_none line.call;
+          gives = tt;
+          flow = tt;
+          caused = error_holds ReadCause (read_error other) told;
+        }
+
+    fine : (asked : Act) → Contains c.asked (record { call = line.call; act = asked }) → (answer : AnswerSeen) → IsExplained b.rules c.store c.told.entries shown line.call asked answer → IsFine asked answer
+    fine (act.Update edit) asked answer told = fine_update edit asked answer told
+    fine act.Read asked answer told = fine_read answer told
+    fine other asked answer told = absurd told
+
+    abbrev answer : IsFine it.act line.answer
+    answer = fine it.act it.asked line.answer it.explained
+
+    has_cause : (asked : Act) → Caused asked line.answer → HasCauseBy b c before line asked
+    has_cause (act.Update edit) is = is
+    has_cause act.Read is = is
+    has_cause other is = absurd is
 
     is_told : IsTold script line
     is_told = record { home = it.home; poster = ap (λ o. is_some o) it.poster ∙ sym it.client; poster_home = unposted _ _ line.poster it.poster tt }
 
     formed : HasForm c line
-    formed = unposted _ _ line.poster it.poster (record { act = act.Update it.edit; asked = it.asked; fits = answer.form })
+    formed = unposted _ _ line.poster it.poster (record { act = it.act; asked = it.asked; fits = answer.form })
 
     caused : IsCaused b c before line
-    caused = unposted _ _ line.poster it.poster (record { act = act.Update it.edit; asked = it.asked; fits = answer.caused })
+    caused = unposted _ _ line.poster it.poster (record { act = it.act; asked = it.asked; fits = has_cause it.act answer.caused })
 
     no_job : IfSome line.poster (DoesJob c before line)
     no_job = unposted _ _ line.poster it.poster tt
 
     not_posted : line.answer ≡ seen.Posted → IsDoneBy c line.call
-    not_posted posted = never (ap answers_update (sym posted) ∙ answer.form)
+    not_posted posted = never (sym answer.no_post ∙ ap is_posted posted)
 
   module _ (before : List PrefEntry) (e : PrefEntry) (behind : List PrefEntry) (is : c.told.entries ≡ before ++ e ∷ behind) where
     -- the answer of its call
@@ -202,7 +271,7 @@ module _ (b : Basis) (script : Script) (c : Chapter) (k : EndsWell b script c) w
     entry_home = subst (λ call. IsHome script call) answered.own truth.home
 
     entry_asked : IsAsked c e.who (λ act. Unit {0})
-    entry_asked = record { act = act.Update truth.edit; asked = subst (λ call. Contains c.asked (record { call = call; act = act.Update truth.edit })) answered.own truth.asked; fits = tt }
+    entry_asked = record { act = truth.act; asked = subst (λ call. Contains c.asked (record { call = call; act = truth.act })) answered.own truth.asked; fits = tt }
 
     entry_lives : is_death e.kind ≡ true → IsPlanned c.plan.deaths before e.who
     entry_lives dead = never (sym (none_stands dies c.told.entries before behind e deaths_none is) ∙ dead)
@@ -216,34 +285,61 @@ module _ (b : Basis) (script : Script) (c : Chapter) (k : EndsWell b script c) w
           let none = none_stands is_folder_fault c.told.entries before behind x (counted is_folder_fault c.told.entries ∙ rw faults_none refl) is in
           never (sym none ∙ (and_parts (is_call line.call x.who) (is_fault_of Folder x.kind) own).1)
 
+      not_uncertain : {X : Type 0} (place : ℕ) → IsUncertain line.call place c.told.entries → X
+      not_uncertain place changed =
+          let failed = changed.failed in
+          no_fault (failed.before ++ failed.first ∷ failed.between) failed.second failed.behind (failed.is ∙ sym (append_assoc failed.before (failed.first ∷ failed.between) (failed.second ∷ failed.behind))) failed.closes
+
+      not_dead : {X : Type 0} (place : ℕ) → IsDead line.call place c.told.entries → X
+      not_dead place told =
+          let death = told.death in
+          never (sym (death_of line.call.node death.entry.kind (none_stands dies c.told.entries death.before death.behind death.entry deaths_none death.is)) ∙ death.passed)
+
       -- what is answered otherwise has no Edit and no Same
-      by_answer : (answer : AnswerSeen) → line.answer ≡ answer → IsUpdateExplained b.rules c.store c.told.entries (shown_to line.call.client c.told.entries answered.at.before) line.call truth.edit answer → IsOwnEdit b c e
-      by_answer (seen.Updated edition) says told =
+      not_other : {X : Type 0} → may_stand line.answer ≡ false → X
+      not_other other = never (sym (none_stands (is_own is_update line.call) c.told.entries before behind e (truth.none other) is) ∙ mine)
+
+      abbrev shown_then : ℕ
+      shown_then = shown_to line.call.client c.told.entries answered.at.before
+
+      by_update : (edit : Change) → Contains c.asked (record { call = line.call; act = act.Update edit }) → (answer : AnswerSeen) → line.answer ≡ answer → IsUpdateExplained b.rules c.store c.told.entries shown_then line.call edit answer
+          → IsOwnEdit b c e
+      by_update edit asked (seen.Updated edition) says told =
           record {
             line = line;
-            edit = truth.edit;
+            edit = edit;
             answered = subst (λ list. Contains list line) (sym answered.at.is) (contains_at answered.at.before line answered.at.behind);
             own = answered.own;
             may = rw says refl;
-            asked = carries answered.at.before line answered.at.behind answered.at.is;
+            asked = unposted _ _ line.poster truth.poster asked;
             carried =
-                all_at (CarriesIt line.call truth.edit edition c.told.entries told) before e behind
-                (subst (λ list. All (CarriesIt line.call truth.edit edition c.told.entries told) list) is (updates_carry line.call truth.edit edition c.told.entries told)) mine;
+                all_at (CarriesIt line.call edit edition c.told.entries told) before e behind
+                (subst (λ list. All (CarriesIt line.call edit edition c.told.entries told) list) is (updates_carry line.call edit edition c.told.entries told)) mine;
           }
-      by_answer (seen.NotDurable place) says told =
+      by_update edit asked (seen.NotDurable place) says told =
           elim told [
-            | inl changed ↦ (let failed = changed.failed in
-                no_fault (failed.before ++ failed.first ∷ failed.between) failed.second failed.behind (failed.is ∙ sym (append_assoc failed.before (failed.first ∷ failed.between) (failed.second ∷ failed.behind))) failed.closes)
+            | inl changed ↦ not_uncertain place changed
             | inr same ↦ no_fault same.fault.before same.fault.entry same.fault.behind same.fault.is same.fault.passed
           ]
-      by_answer (seen.Died place) says told =
-          let death = told.death in
-          never (sym (death_of line.call.node death.entry.kind (none_stands dies c.told.entries death.before death.behind death.entry deaths_none death.is)) ∙ death.passed)
-      by_answer seen.Cut says told = absurd told
-      by_answer other says told = never (sym (none_stands (is_own is_update line.call) c.told.entries before behind e (truth.none (rw says refl)) is) ∙ mine)
+      by_update edit asked (seen.Died place) says told = not_dead place told
+      by_update edit asked seen.Cut says told = absurd told
+      by_update edit asked other says told = not_other (rw says refl)
+
+      -- nor has a read
+      by_read : (answer : AnswerSeen) → line.answer ≡ answer → IsReadExplained b.rules c.store c.told.entries shown_then line.call answer → IsOwnEdit b c e
+      by_read (seen.Updated edition) says told = absurd told
+      by_read (seen.NotDurable place) says told = not_uncertain place told
+      by_read (seen.Died place) says told = not_dead place told
+      by_read seen.Cut says told = absurd told
+      by_read other says told = not_other (rw says refl)
+
+      by_act : (asked : Act) → Contains c.asked (record { call = line.call; act = asked }) → IsExplained b.rules c.store c.told.entries shown_then line.call asked line.answer → IsOwnEdit b c e
+      by_act (act.Update edit) asked told = by_update edit asked line.answer refl told
+      by_act act.Read asked told = by_read line.answer refl told
+      by_act other asked told = absurd told
 
       own_edit : IsOwnEdit b c e
-      own_edit = by_answer line.answer refl truth.explained
+      own_edit = by_act truth.act truth.asked truth.explained
 
   spares : (call : CallId) (answer : AnswerSeen) → Spares c call answer
   spares call (seen.Updated edition) = record { passed = rw k.unplanned refl; written = λ edits. rw k.unplanned refl }

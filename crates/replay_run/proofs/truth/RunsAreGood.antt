@@ -1,10 +1,10 @@
 -- A run of a script of settings gives a transcript that tells the truth.
 use Rattle.std.proofs.Common.{List, All, [], subst}
 use Rattle.std.proofs.lemmas.List.Elements.{All-head}
-use Rattle.script_lang.specs.declared.run_line.RunLine.{RunLine}
-use Rattle.script_lang.specs.declared.script.Script.{Script}
-use Rattle.script_lang.specs.declared.session_plan.SessionPlan.{SessionPlan}
-use Rattle.script_lang.specs.declared.transcript.Transcript.{Transcript}
+use Rattle.script_lang.specs.declared.plan.run_line.RunLine.{RunLine}
+use Rattle.script_lang.specs.declared.plan.script.Script.{Script}
+use Rattle.script_lang.specs.declared.plan.session_plan.SessionPlan.{SessionPlan}
+use Rattle.script_lang.specs.declared.transcripts.transcript.Transcript.{Transcript}
 use Rattle.script_lang.specs.Good.{Good}
 use Rattle.script_lang.specs.Keeps.{Keeps}
 use Rattle.replay_run.specs.PrefsBasis.{prefs_basis}
@@ -18,4 +18,4 @@ runs_good script transcript kept typed runs =
     let plan = kept.built.plan in
     let all : All (λ (line : RunLine). IsTypedAct line.act) plan.lines =
     All-head (λ (p : SessionPlan). All (λ (line : RunLine). IsTypedAct line.act) p.lines) plan [] (subst (λ (sessions : List SessionPlan). All (λ p. All (λ (line : RunLine). IsTypedAct line.act) p.lines) sessions) kept.built.only typed) in
-    good_end prefs_basis script transcript kept runs (λ told played. first_ends script plan told kept.built.plain all [] played)
+    good_end prefs_basis script transcript kept runs (λ told played. first_ends script plan told kept.built.plain all kept.homes.declared [] played)

@@ -12,7 +12,6 @@ use Rattle.hist_journal.proofs.ClearingLemmas.{longer}
 use Rattle.prefs_text.specs.Callers.{actor_name}
 use Rattle.prefs_text.specs.EntryText.{PrefEntry}
 use Rattle.prefs_text.specs.declared.seen.AnswerLineSeen.{AnswerLineSeen}
-use Rattle.prefs_text.specs.declared.seen.AnswerSeen.{AnswerSeen}
 use Rattle.shelf.specs.Each.{Each}
 use Rattle.shelf.specs.Entries.{is_own, is_update}
 use Rattle.shelf.proofs.Bools.{none_in_both}
@@ -22,16 +21,14 @@ use Rattle.script_lang.specs.Chronicle.{Basis, Chapter}
 use Rattle.script_lang.specs.GoodAnswers.{IsHome}
 use Rattle.script_lang.specs.GoodCauses.{may_stand}
 use Rattle.script_lang.specs.Shown.{printed, shown_to}
-use Rattle.script_lang.specs.declared.run_line.Act.{Act}
-use Rattle.script_lang.specs.declared.run_line.Act.TheVariants as act
-use Rattle.script_lang.specs.declared.script.Script.{Script}
-use Rattle.replay_run.specs.ClientInvariant.{ClientInvariant, IsExplained, IsUpdateExplained}
+use Rattle.script_lang.specs.declared.plan.run_line.Act.{Act}
+use Rattle.script_lang.specs.declared.plan.script.Script.{Script}
+use Rattle.replay_run.specs.ClientInvariant.{ClientInvariant, IsExplained}
 use Rattle.replay_run.specs.EndInvariant.{EndInvariant}
 use Rattle.replay_run.specs.Lines.{acts_for}
 use Rattle.replay_run.specs.Rounds.{IsOver}
 use Rattle.replay_run.specs.RunState.{Client, RunState, call_at}
 use Rattle.replay_run.specs.ScriptRun.{Tells, lines_of}
-use Rattle.replay_run.specs.Settings.{Change}
 use Rattle.replay_run.proofs.keeping.Peaceful.{Peaceful}
 use Rattle.replay_run.proofs.keeping.StepsKeep.{all_answered}
 use Rattle.replay_run.proofs.lists.JoinedLemmas.{all_each}
@@ -74,14 +71,14 @@ others_show client entries (line ∷ others) own apart =
     rw (All-head (Of (λ n. (client.0 == n) ≡ false)) line others apart) (others_show client entries others own (All-tail (Of (λ n. (client.0 == n) ≡ false)) line others apart))
 
 module _ (b : Basis) (script : Script) (c : Chapter) where
-  -- a line answers an update of a client, and tells the truth of the history
+  -- a line answers a call of a client, and tells the truth of the history
   pub record IsTrueLine (list : List PrefEntry) (before : List AnswerLineSeen) (line : AnswerLineSeen) : Type 0 where
-    pub edit : Change
-    pub asked : Contains c.asked (record { call = line.call; act = act.Update edit })
+    pub act : Act
+    pub asked : Contains c.asked (record { call = line.call; act = act })
     pub home : IsHome script line.call
     pub client : is_actor script line.call.client ≡ false
     pub poster : line.poster ≡ None
-    pub explained : IsUpdateExplained b.rules c.store list (shown_to line.call.client list before) line.call edit line.answer
+    pub explained : IsExplained b.rules c.store list (shown_to line.call.client list before) line.call act line.answer
     pub late : IfSome (printed line.answer) (λ edition. shown_to line.call.client list before ≤ edition)
     pub none : may_stand line.answer ≡ false → list_any (is_own is_update line.call) list ≡ false
     pub in_order : list_any (is_later line.call.client.0) before ≡ false
@@ -148,19 +145,12 @@ module _ (b : Basis) (script : Script) (c : Chapter) (k : EndsWell b script c) w
   pub answers_are : c.told.answers ≡ flat_map (λ client. client.answered) k.end.clients
   answers_are = k.tells.answers ∙ flat_same lines_of (λ client. client.answered) k.end.clients lines_answer
 
-  -- other calls have no answers
-  updates : (list : List PrefEntry) (shown : ℕ) (call : CallId) (a : Act) (answer : AnswerSeen) → IsExplained b.rules c.store list shown call a answer
-      → (edit : Change) × (a ≡ act.Update edit) × IsUpdateExplained b.rules c.store list shown call edit answer
-  updates list shown call (act.Update edit) answer it = (edit, refl, it)
-  updates list shown call other answer it = absurd it
-
   module _ (place : ℕ) (client : Client) (found : slice_get k.end.clients place ≡ Some client) (others : List AnswerLineSeen) (earlier : All (Of (λ n. n < place)) others) where
     -- each of its answers, where those of earlier clients stand before
     true_line : (before : List AnswerLineSeen) (line : AnswerLineSeen) (behind : List AnswerLineSeen) → client.answered ≡ before ++ line ∷ behind → IsTrueLine b script c history (others ++ before) line
     true_line before line behind is =
         let known = kept place client found in
         let truth = known.answers before line behind is in
-        let it = updates history (shown_to client.id history before) line.call truth.act line.answer truth.explained in
         let own = known.id in
         let call : line.call ≡ own_call script place (length before) = truth.call ∙ own_is place client found (length before) in
         let shown : shown_to line.call.client history (others ++ before) ≡ shown_to client.id history before =
@@ -168,12 +158,12 @@ module _ (b : Basis) (script : Script) (c : Chapter) (k : EndsWell b script c) w
         ∙ others_show client.id history others before (told_by (λ n. client.id.0 == n) false (λ n. n < place) (λ n less. ne_eqb client.id.0 n (λ same. omega (arith, same, less, own))) others earlier) in
         let mine : All (Of (λ n. n ≡ place)) before = owned place client found before (line ∷ behind) is in
         record {
-          edit = it.0;
-          asked = subst (λ call. Contains c.asked (record { call = call; act = act.Update it.0 })) (sym call) (asks place client found (length before) (act.Update it.0) (truth.asked ∙ ap (λ a. Some a) it.1));
+          act = truth.act;
+          asked = subst (λ call. Contains c.asked (record { call = call; act = truth.act })) (sym call) (asks place client found (length before) truth.act truth.asked);
           home = subst (λ call. IsHome script call) (sym call) (home place client found (length before));
           client = ap (λ (call : CallId). is_actor script call.client) call ∙ no_actor place client found;
           poster = truth.poster;
-          explained = subst (λ shown. IsUpdateExplained b.rules c.store history shown line.call it.0 line.answer) (sym shown) it.2;
+          explained = subst (λ shown. IsExplained b.rules c.store history shown line.call truth.act line.answer) (sym shown) truth.explained;
           late = subst (λ shown. IfSome (printed line.answer) (λ edition. shown ≤ edition)) (sym shown) truth.late;
           none = truth.none;
           in_order =

@@ -1,5 +1,5 @@
 -- What a run has asked its clients for, and will: the lines of its script.
-use Rattle.std.proofs.Common.{◌≡◌, ◌∙◌, ◌≢◌, inl, inr, ◌==◌, ℕ, true, false, List, [], ◌∷◌, ◌++◌, length, append_assoc, Option, Some, None, slice_get, slice_set, refl, ap}
+use Rattle.std.proofs.Common.{◌≡◌, ◌∙◌, ◌≢◌, inl, inr, ◌==◌, ℕ, true, false, List, [], ◌∷◌, ◌++◌, length, append_assoc, Some, slice_get, slice_set, refl, ap}
 use Rattle.std.specs.List.{enumerate_from}
 use Rattle.std.proofs.lemmas.Bool.{and_left, and_right, eq-eqb, ne_eqb}
 use Rattle.std.proofs.lemmas.List.{length-map, length-set}
@@ -8,17 +8,17 @@ use Rattle.store_traits.specs.declared.ids.NodeId.{NodeId}
 use Rattle.folder_disk.specs.Tally.{Tally}
 use Rattle.shelf.specs.declared.store.Store.{Store}
 use Rattle.script_lang.specs.Asked.{is_call_act, is_call_line_of}
-use Rattle.script_lang.specs.declared.run_line.Act.{Act}
-use Rattle.script_lang.specs.declared.run_line.Act.TheVariants as act
-use Rattle.script_lang.specs.declared.run_line.RunLine.{RunLine}
+use Rattle.script_lang.specs.declared.plan.run_line.Act.{Act}
+use Rattle.script_lang.specs.declared.plan.run_line.Act.TheVariants as act
+use Rattle.script_lang.specs.declared.plan.run_line.RunLine.{RunLine}
 use Rattle.replay_run.specs.Lines.{Follows, FollowsAll, acts_for, with_act}
 use Rattle.replay_run.specs.Rounds.{Finishes}
-use Rattle.replay_run.specs.RunState.{Client, RunState, Shared, act_now}
+use Rattle.replay_run.specs.RunState.{Client, NodeView, RunState}
 use Rattle.replay_run.specs.Settings.{PrefRules, Value}
 use Rattle.replay_run.specs.Start.{new_client, start_of}
-use Rattle.replay_run.specs.Steps.{StepsAt, StepsBy}
-use Rattle.replay_run.proofs.keeping.BehindTurns.{behind, behind_same}
+use Rattle.replay_run.specs.Steps.{ClientSteps, StepsAt}
 use Rattle.replay_run.proofs.keeping.RunKeeps.{rounds_keep, times_keep}
+use Rattle.replay_run.proofs.keeping.SameClients.{still_that}
 use Rattle.replay_run.proofs.keeping.StepsKeep.{new_from}
 use Rattle.replay_run.proofs.lists.SetLemmas.{found_then}
 
@@ -48,17 +48,15 @@ module _ (homes : List NodeId) (all : List RunLine) where
       }
 
   module _ {M : Type 0} (r : PrefRules) (s : Store Value M) where
-    client_keeps : (left : List RunLine) (place : ℕ) (asked : Option Act) (client : Client) (shared : Shared) (after : Client) (shared_after : Shared) → StepsBy r s asked client shared after shared_after
-        → IsUnderWay left place client → IsUnderWay left place after
-    client_keeps left place (Some (act.Update edit)) client shared after shared_after it was =
-        let same = behind_same it.gave after (behind client it.call_after it.gave after it.now) in
+    client_keeps : (left : List RunLine) (place : ℕ) (client : Client) (view : NodeView) (after : Client) (view_after : NodeView) → ClientSteps r s client view after view_after → IsUnderWay left place client → IsUnderWay left place after
+    client_keeps left place client view after view_after it was =
+        let same = still_that r s client view after view_after it in
         record { home = rw same.node was.home; asked = rw same.asked was.asked; earlier = same.earlier ∙ was.earlier }
-    client_keeps left place (Some other) client shared after shared_after it was = absurd it
-    client_keeps left place None client shared after shared_after it was = rw it.0 was
 
     step_keeps : (left : List RunLine) (place : ℕ) (old new : RunState) → StepsAt r s place old new → AreUnderWay left old → AreUnderWay left new
     step_keeps left place old new it were =
-        replaced left left place old new it.client_after it.now were (client_keeps left place (act_now it.client) it.client old.shared it.client_after new.shared it.steps (were.each place it.client it.was)) (λ other c apart it. it)
+        replaced left left place old new it.client_after it.now were
+        (client_keeps left place it.client (record { world = old.shared.world; kept = it.kept }) it.client_after (record { world = new.shared.world; kept = it.kept_after }) it.steps (were.each place it.client it.was)) (λ other c apart it. it)
 
     module _ (line : RunLine) (left : List RunLine) where
       -- a line for others

@@ -1,14 +1,14 @@
 -- The lines of a script, and the rounds behind them, lead to one end.
 use Rattle.std.proofs.Common.{◌≡◌, ◌∙◌, ◌+◌, ℕ, suc, zero, true, false, List, [], ◌∷◌, length, Option, Some, None, is_some, slice_set, refl, sym, ap, subst}
 use Rattle.prefs_model.specs.declared.pref_pair.PrefPair.{PrefPair}
-use Rattle.script_lang.specs.declared.run_line.Act.{Act}
-use Rattle.script_lang.specs.declared.run_line.Act.TheVariants.{Go}
-use Rattle.script_lang.specs.declared.run_line.RunLine.{RunLine}
+use Rattle.script_lang.specs.declared.plan.run_line.Act.{Act}
+use Rattle.script_lang.specs.declared.plan.run_line.Act.TheVariants.{Go}
+use Rattle.script_lang.specs.declared.plan.run_line.RunLine.{RunLine}
 use Rattle.shelf.specs.declared.store.Store.{Store}
 use Rattle.shelf.proofs.Bools.{never}
 use Rattle.replay_run.specs.Lines.{Asks, Follows, FollowsAll, StepsTimes, with_act}
 use Rattle.replay_run.specs.Rounds.{EndsBy, IsOver, Rounds, StepsEach}
-use Rattle.replay_run.specs.RunState.{Client, RunState, Shared, act_now, is_busy}
+use Rattle.replay_run.specs.RunState.{Client, NodeView, RunState, act_now, is_busy}
 use Rattle.replay_run.specs.Settings.{PrefRules, Value}
 use Rattle.replay_run.specs.Steps.{StepsAt, StepsBy}
 use Rattle.replay_run.proofs.keeping.RunKeeps.{rounds_keep}
@@ -18,15 +18,18 @@ use Rattle.replay_run.proofs.unique.OneStep.{IsOneState, both_same, steps_once}
 
 -- where nobody has anything to do, nothing changes any more
 module _ (r : PrefRules) {M : Type 0} (s : Store Value M) where
-  idle_by : (at : Option Act) (client client_after : Client) (shared after : Shared) → is_some at ≡ false → StepsBy r s at client shared client_after after → (client_after ≡ client) × (after ≡ shared)
-  idle_by (Some act) client client_after shared after idle it = never (sym idle)
-  idle_by None client client_after shared after idle it = it
+  idle_by : (at : Option Act) (client client_after : Client) (view after : NodeView) → is_some at ≡ false → StepsBy r s at client view client_after after → (client_after ≡ client) × (after ≡ view)
+  idle_by (Some act) client client_after view after idle it = never (sym idle)
+  idle_by None client client_after view after idle it = it
 
   step_over : (place : ℕ) (old new : RunState) → IsOver old → StepsAt r s place old new → new ≡ old
   step_over place old new over it =
-      let same = idle_by (act_now it.client) it.client it.client_after old.shared new.shared (none_at is_busy old.clients place it.client over it.was) it.steps in
+      let same = idle_by (act_now it.client) it.client it.client_after (record { world = old.shared.world; kept = it.kept }) (record { world = new.shared.world; kept = it.kept_after }) (none_at is_busy old.clients place it.client over it.was) it.steps in
+      let world : new.shared.world ≡ old.shared.world = ap (λ (view : NodeView). view.world) same.1 in
+      let caches : new.shared.caches ≡ old.shared.caches =
+      it.caches ∙ (ap (λ (view : NodeView). slice_set old.shared.caches it.client.node.0 view.kept) same.1 ∙ set_same old.shared.caches it.client.node.0 it.kept it.cache) in
       let clients : new.clients ≡ old.clients = it.now ∙ (ap (λ (c : Client). slice_set old.clients place c) same.0 ∙ set_same old.clients place it.client it.was) in
-      rw (same.1, clients) refl
+      rw (world, caches, clients) refl
 
   rounds_over : (rounds : ℕ) (old new : RunState) → IsOver old → Rounds r s rounds old new → new ≡ old
   rounds_over rounds old new over it = rounds_keep r s (λ state. state ≡ old) (λ place x y step same. step_over place x y (subst IsOver (sym same) over) step ∙ same) rounds old new it refl

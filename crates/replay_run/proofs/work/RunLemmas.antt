@@ -1,12 +1,16 @@
 -- Runs grow at their end: by a step, a round, a line.
-use Rattle.std.proofs.Common.{◌≡◌, ◌+◌, ℕ, suc, zero, List, [], ◌∷◌, ◌++◌, refl, subst, arith}
-use Rattle.script_lang.specs.declared.run_line.RunLine.{RunLine}
+use Rattle.std.proofs.Common.{◌≡◌, ◌≤◌, ◌<◌, ◌+◌, ◌-◌, ℕ, suc, zero, false, List, [], ◌∷◌, ◌++◌, length, Option, Some, None, is_some, slice_get, refl, sym, subst, arith}
+use Rattle.script_lang.specs.declared.plan.run_line.Act.{Act}
+use Rattle.script_lang.specs.declared.plan.run_line.RunLine.{RunLine}
 use Rattle.shelf.specs.declared.store.Store.{Store}
+use Rattle.shelf.proofs.Bools.{never}
 use Rattle.replay_run.specs.Lines.{Follows, FollowsAll, StepsTimes}
 use Rattle.replay_run.specs.Rounds.{Round, Rounds, StepsEach}
-use Rattle.replay_run.specs.RunState.{RunState}
+use Rattle.replay_run.specs.RunState.{Client, NodeView, RunState, act_now, is_busy}
 use Rattle.replay_run.specs.Settings.{PrefRules, Value}
-use Rattle.replay_run.specs.Steps.{StepsAt}
+use Rattle.replay_run.specs.Steps.{ClientSteps, StepsAt}
+use Rattle.replay_run.proofs.lists.OptionLemmas.{there}
+use Rattle.replay_run.proofs.lists.SetLemmas.{set_same}
 
 module _ (r : PrefRules) {M : Type 0} (s : Store Value M) where
   times_push : (place n : ℕ) (old mid new : RunState) → StepsTimes r s place n old mid → StepsAt r s place mid new → StepsTimes r s place (suc n) old new
@@ -22,6 +26,38 @@ module _ (r : PrefRules) {M : Type 0} (s : Store Value M) where
   pub times_none : (place : ℕ) (state : RunState) → StepsTimes r s place 0 state state
   unfolding StepsTimes
   times_none place state = refl
+
+  -- where a step leaves all as it was, it may be done any number of times
+  times_on : (place n more : ℕ) (old new : RunState) → StepsTimes r s place n old new → StepsAt r s place new new → StepsTimes r s place (n + more) old new
+  times_on place n zero old new times stays = let same : n ≡ n + 0 = omega arith in subst (λ k. StepsTimes r s place k old new) same times
+  times_on place n (suc more) old new times stays =
+      let same : n + more + 1 ≡ n + suc more = omega arith in
+      subst (λ k. StepsTimes r s place k old new) same (times_more place (n + more) old new new (times_on place n more old new times stays) stays)
+
+  pub times_up_to : (place n steps : ℕ) (old new : RunState) → n ≤ steps → StepsTimes r s place n old new → StepsAt r s place new new → StepsTimes r s place steps old new
+  times_up_to place n steps old new within times stays =
+      let same : n + (steps - n) ≡ steps = omega (arith, within) in
+      subst (λ k. StepsTimes r s place k old new) same (times_on place n (steps - n) old new times stays)
+
+  -- a client that has nothing to do leaves all as it was
+  pub rests : (place : ℕ) (state : RunState) (client : Client) → slice_get state.clients place ≡ Some client → is_busy client ≡ false → client.node.0 < length state.shared.caches → StepsAt r s place state state
+  rests place state client found idle home =
+      let kept = there state.shared.caches client.node.0 home in
+      record {
+        client = client;
+        client_after = client;
+        kept = kept.0;
+        kept_after = kept.0;
+        was = found;
+        cache = kept.1;
+        steps = by_act _ (act_now client) refl idle;
+        caches = sym (set_same state.shared.caches client.node.0 kept.0 kept.1);
+        now = sym (set_same state.clients place client found);
+      }
+    where
+      by_act : (view : NodeView) (at : Option Act) → act_now client ≡ at → is_some at ≡ false → ClientSteps r s client view client view
+      by_act view (Some act) is busy = never (sym busy)
+      by_act view None is busy = rw is (refl, refl)
 
   each_push : (first n : ℕ) (old mid new : RunState) → StepsEach r s first n old mid → StepsAt r s (first + n) mid new → StepsEach r s first (suc n) old new
   unfolding StepsEach

@@ -1,15 +1,17 @@
 -- Each step of a client that does not wait leaves less to do, and in each round somebody does one.
-use Rattle.std.proofs.Common.{◌≡◌, ◌∙◌, ◌⊎◌, inl, inr, ◌≤◌, ◌<◌, ◌+◌, ◌-◌, ◌*◌, ◌==◌, ◌||◌, ℕ, Bool, true, false, length, [], Option, Some, None, IfSome, is_some, slice_get, slice_set, slice_index_or, refl, sym, ap, subst, arith}
+use Rattle.std.proofs.Common.{◌≡◌, ◌∙◌, ◌⊎◌, inl, inr, ◌≤◌, ◌<◌, ◌+◌, ◌-◌, ◌*◌, ◌==◌, ◌||◌, ℕ, Bool, true, false, length, [], Option, Some, None, IfSome, is_some, slice_get, slice_index_or, unwrap_or, refl, sym, ap, subst, arith}
 use Rattle.std.proofs.lemmas.Bool.{eqb-true, eqb-false as apart_of}
 use Rattle.std.proofs.lemmas.List.Folds.{list_any_none}
 use Rattle.std.proofs.lemmas.Option.{slice_get-get_or, slice_get_within}
 use Rattle.store_traits.specs.declared.ids.CallId.{CallId}
 use Rattle.store_traits.specs.declared.ids.NodeId.{NodeId}
 use Rattle.hist_journal.specs.Nodes.{is_ready}
+use Rattle.prefs_text.specs.declared.seen.AnswerSeen.TheVariants as seen
 use Rattle.shelf.specs.declared.store.Store.{Store}
 use Rattle.shelf.proofs.Bools.{never}
 use Rattle.shelf.proofs.DeathLemmas.{none_of_node}
-use Rattle.step_table.specs.Calls.{At, First, Reply, is_first}
+use Rattle.step_table.specs.Caching.{found}
+use Rattle.step_table.specs.Calls.{At, First, Read, Reply, is_locking}
 use Rattle.step_table.specs.Turn.{Turn}
 use Rattle.step_table.specs.World.{Turned}
 use Rattle.step_table.specs.declared.progress.Progress.{Progress}
@@ -21,26 +23,27 @@ use Rattle.node_core.proofs.KeepingLemmas.{turn_stays}
 use Rattle.node_core.proofs.MovingLemmas.{has_left}
 use Rattle.node_core.proofs.ReadinessLemmas.{stays_ready, turn_finds}
 use Rattle.node_core.proofs.StepsLemmas.{turn_steps}
-use Rattle.script_lang.specs.declared.run_line.Act.{Act}
-use Rattle.script_lang.specs.declared.run_line.Act.TheVariants as act
+use Rattle.script_lang.specs.declared.plan.run_line.Act.TheVariants as act
+use Rattle.replay_run.specs.Answering.{behind_look}
 use Rattle.replay_run.specs.ClientInvariant.{CallInvariant}
 use Rattle.replay_run.specs.Rounds.{IsOver}
 use Rattle.replay_run.specs.RunInvariant.{HasOwner, RunInvariant}
-use Rattle.replay_run.specs.RunState.{Client, RunState, act_now, call_now, is_busy}
-use Rattle.replay_run.specs.Settings.{Change, PrefCall, PrefRules, PrefWorld, Value}
-use Rattle.replay_run.specs.Steps.{StepsAt, StepsBy}
-use Rattle.replay_run.specs.WorkLeft.{IsStill, RoundSoFar, Waits, client_left, work_left}
-use Rattle.replay_run.proofs.keeping.BehindTurns.{Behind, behind, blocked, ended, moved}
+use Rattle.replay_run.specs.RunState.{Client, NodeView, RunState, act_now, act_of, call_now, is_busy, new_call}
+use Rattle.replay_run.specs.Settings.{Change, PrefAsk, PrefCached, PrefCall, PrefRules, PrefWorld, Value}
+use Rattle.replay_run.specs.Steps.{Looks, StepsAt}
+use Rattle.replay_run.specs.WorkLeft.{IsStill, RoundSoFar, Waits, client_left, turns_left, work_left}
+use Rattle.replay_run.proofs.keeping.BehindTurns.{Behind, behind, blocked, client_on, ended, moved}
 use Rattle.replay_run.proofs.keeping.CallKept.{call_kept}
 use Rattle.replay_run.proofs.keeping.OwnTurns.{own_turn}
 use Rattle.replay_run.proofs.keeping.Peaceful.{is_peaceful}
+use Rattle.replay_run.proofs.keeping.StepCases.{StepCase, looks, rests, step_case, turns}
 use Rattle.replay_run.proofs.lists.OptionLemmas.{one_of_it}
 use Rattle.replay_run.proofs.lists.SetLemmas.{others_found}
-use Rattle.replay_run.proofs.work.TurnsLeft.{answered_left, client_least, left_least, sum_with}
+use Rattle.replay_run.proofs.work.TurnsLeft.{answered_left, client_least, left_least, now_left, running_left, sum_with}
 
-first_holds_none : (at : At Value Change) → is_first at ≡ true → is_holding at ≡ false
-first_holds_none (First edit) first = refl
-first_holds_none other first = never first
+locking_holds_none : (ready : Bool) (at : At Value Change) → is_locking ready at ≡ true → is_holding at ≡ false
+locking_holds_none ready (First ask) locks = refl
+locking_holds_none ready other locks = never locks
 
 some_owner : (owner : Option CallId) → (owner ≡ None → ⊥) → (other : CallId) × (owner ≡ Some other)
 some_owner None owned = absurd (owned refl)
@@ -60,80 +63,94 @@ module _ (r : PrefRules) {M : Type 0} (s : Store Value M) (unplanned : s.deaths 
   limit = s.limits.file
 
   module _ (place : ℕ) (old new : RunState) (it : StepsAt r s place old new) (keeps : RunInvariant r s old) (told : old.shared.world.told ≡ true) where
+    -- behind the call that the client is at
+    abbrev rest : ℕ
+    rest = (length it.client.asked - length it.client.answered - 1) * (limit + 12)
+
     abbrev IsLess : Client → Type 0
     IsLess now = client_left limit new.shared.world now < client_left limit old.shared.world it.client
 
-    module _ (edit : Change) (asked : act_now it.client ≡ Some (act.Update edit)) where
+    falls : ((node : NodeId) → is_ready node old.shared.world.history ≡ true → is_ready node new.shared.world.history ≡ true) → IsLess it.client_after → work_left limit new < work_left limit old
+    falls grows less =
+        let sum = sum_with (client_left limit old.shared.world) (client_left limit new.shared.world) (client_least limit old.shared.world new.shared.world grows) old.clients place it.client_after it.client it.was in
+        rw it.now (omega (arith, sum, less))
+
+    idles : new.shared.world ≡ old.shared.world → client_left limit old.shared.world it.client_after ≤ client_left limit old.shared.world it.client → ((is_busy it.client ≡ false) ⊎ Waits old it.client) → FallsOrIdles limit it.client old new
+    idles world less why =
+        let sum = sum_with (client_left limit old.shared.world) (client_left limit old.shared.world) (λ c. omega arith) old.clients place it.client_after it.client it.was in
+        inr (record { world = world; work = rw (world, it.now) (omega (arith, sum, less)); why = why })
+
+    -- a turn of the call that the client is at
+    module _ (ask : PrefAsk) (asked : act_now it.client ≡ Some (act_of ask)) (call_after : PrefCall) where
       abbrev call : PrefCall
-      call = call_now it.client edit
+      call = call_now it.client ask
 
       kept : CallInvariant r s it.client old.shared.world call
-      kept = call_kept r s old place it.client it.was keeps edit asked
+      kept = call_kept r s old place it.client it.was keeps ask asked
 
-      -- behind the call
-      abbrev rest : ℕ
-      rest = (length it.client.asked - length it.client.answered - 1) * (limit + 11)
+      left_is : turns_left limit old.shared.world it.client call + rest ≤ client_left limit old.shared.world it.client
+      left_is = rw asked (omega (arith, now_left limit old.shared.world it.client ask))
 
-      left_is : client_left limit old.shared.world it.client ≡ steps_left limit (is_ready it.client.node old.shared.world.history) call.at + rest
-      left_is = rw asked refl
+      abbrev taken : Turned Value Change
+      taken = record { world = old.shared.world; call = call; world_after = new.shared.world; call_after = call_after }
 
-      module _ (call_after : PrefCall) where
-        abbrev taken : Turned Value Change
-        taken = record { world = old.shared.world; call = call; world_after = new.shared.world; call_after = call_after }
+      grows : (gave : Progress (Reply Value)) → Turn r s taken gave → (node : NodeId) → is_ready node old.shared.world.history ≡ true → is_ready node new.shared.world.history ≡ true
+      grows gave turn node is =
+          let own = own_turn r s taken (is_peaceful s unplanned most r old keeps) gave turn told kept.knows.plan in
+          rw own.adds (stays_ready node old.shared.world.history (entries_of call.id turn.effect.kinds) (none_of_node node (entries_of call.id turn.effect.kinds) own.alive) is)
 
-        grows : (gave : Progress (Reply Value)) → Turn r s taken gave → (node : NodeId) → is_ready node old.shared.world.history ≡ true → is_ready node new.shared.world.history ≡ true
-        grows gave turn node is =
-            let own = own_turn r s taken (is_peaceful s unplanned most r old keeps) gave turn told kept.knows.plan in
-            rw own.adds (stays_ready node old.shared.world.history (entries_of call.id turn.effect.kinds) (none_of_node node (entries_of call.id turn.effect.kinds) own.alive) is)
+      -- the call has as many as its next turn leaves it
+      on_left : (w : PrefWorld) → client_left limit w (client_on it.client call_after) ≡ steps_left limit (is_ready it.client.node w.history) call_after.at + rest
+      on_left w = rw asked (ap (λ n. n + rest) (running_left limit w it.client call_after ask))
 
-        falls : (now : Client) (gave : Progress (Reply Value)) → Turn r s taken gave → new.clients ≡ slice_set old.clients place now → IsLess now → work_left limit new < work_left limit old
-        falls now gave turn clients less =
-            let sum = sum_with (client_left limit old.shared.world) (client_left limit new.shared.world) (client_least limit old.shared.world new.shared.world (grows gave turn)) old.clients place now it.client it.was in
-            rw clients (omega (arith, sum, less))
+      turned : (gave : Progress (Reply Value)) → Behind it.client call_after gave it.client_after → Turn r s taken gave → FallsOrIdles limit it.client old new
+      turned gave so turn = by_gave gave it.client_after refl so turn
+        where
+          by_gave : (gave : Progress (Reply Value)) (now : Client) → it.client_after ≡ now → Behind it.client call_after gave now → Turn r s taken gave → FallsOrIdles limit it.client old new
+          by_gave gave now same moved turn =
+              let ready = is_ready it.client.node old.shared.world.history in
+              let ready_now = is_ready it.client.node new.shared.world.history in
+              let node : call.id.node ≡ it.client.node = ap (λ (id : CallId). id.node) kept.id in
+              let steps = turn_steps r s ready taken turn kept.knows (λ is first. rw node is) in
+              let least = left_least limit call_after.at (ready || is_finishing call.at) ready_now (λ first is. rw (← node) (turn_finds r s taken turn first)) in
+              inl (falls (grows gave turn) (rw (same, on_left new.shared.world) (omega (arith, steps, least, left_is))))
+          by_gave gave now same blocked turn =
+              let waits = turn_waits r s taken turn in
+              let at : call_after.at ≡ call.at = ap (λ (c : PrefCall). c.at) (turn_stays r s taken turn).1 in
+              let owner = some_owner old.shared.world.owner (λ none. (let another = waits.3 in rw none at another)) in
+              idles waits.4 (rw (same, on_left old.shared.world, at) left_is)
+              (inr
+              (record {
+                owner = owner.0;
+                owned = owner.1;
+                holds_none = λ running runs. ap (λ o. is_holding (unwrap_or o (new_call it.client ask)).at) (sym runs) ∙ locking_holds_none (is_ready call.id.node old.shared.world.history) call.at waits.2;
+              }))
+          by_gave gave now same (ended {answer = answer} tells) turn =
+              let behind = answered_left limit new.shared.world it.client call_after.id answer in
+              let some = has_left limit (is_ready it.client.node old.shared.world.history) call.at kept.goes_on in
+              inl (falls (grows gave turn) (rw same (omega (arith, behind, some, left_is))))
 
-        turned : (gave : Progress (Reply Value)) (now : Client) → Behind it.client call_after gave now → Turn r s taken gave → new.clients ≡ slice_set old.clients place now → FallsOrIdles limit it.client old new
-        turned gave now moved turn clients =
-            let ready = is_ready it.client.node old.shared.world.history in
-            let ready_now = is_ready it.client.node new.shared.world.history in
-            let node : call.id.node ≡ it.client.node = ap (λ (id : CallId). id.node) kept.id in
-            let steps = turn_steps r s ready taken turn kept.knows (λ is first. rw node is) in
-            let least = left_least limit call_after.at (ready || is_finishing call.at) ready_now (λ first is. rw (← node) (turn_finds r s taken turn first)) in
-            let less : IsLess now = rw (left_is, asked) (omega (arith, steps, least)) in
-            inl (falls now gave turn clients less)
-        turned gave now blocked turn clients =
-            let waits = turn_waits r s taken turn in
-            let at : call_after.at ≡ call.at = ap (λ (c : PrefCall). c.at) (turn_stays r s taken turn).1 in
-            let owner = some_owner old.shared.world.owner (λ none. (let another = waits.3 in rw none at another)) in
-            let same : client_left limit old.shared.world now ≡ client_left limit old.shared.world it.client = rw (asked, at) refl in
-            let sum = sum_with (client_left limit old.shared.world) (client_left limit old.shared.world) (λ c. omega arith) old.clients place now it.client it.was in
-            inr
-            (record {
-              world = waits.4;
-              work = rw (waits.4, clients) (omega (arith, sum, same));
-              why =
-                  inr
-                  (record {
-                    owner = owner.0;
-                    owned = owner.1;
-                    holds_none = λ running is. (let first : is_first call.at ≡ true = waits.2 in first_holds_none running.at (rw is at first));
-                  });
-            })
-        turned gave now (ended {answer = answer} tells) turn clients =
-            let behind = answered_left limit new.shared.world it.client (record { call = call_after.id; poster = None; answer = answer }) in
-            let some = has_left limit (is_ready it.client.node old.shared.world.history) call.at kept.goes_on in
-            let less : IsLess now = rw left_is (omega (arith, behind, some)) in
-            inl (falls now gave turn clients less)
+    -- a read that has not begun looks: it is answered, or has its turns left
+    module _ (asked : act_now it.client ≡ Some act.Read) (idle : it.client.running ≡ None) where
+      looked : (seen : Option PrefCached) → it.client_after ≡ behind_look it.client seen → client_left limit old.shared.world it.client_after < client_left limit old.shared.world it.client
+      looked (Some cached) is =
+          let behind = answered_left limit old.shared.world it.client (new_call it.client Read).id (seen.Read cached.edition cached.value) in
+          rw (is, asked, idle) (omega (arith, behind))
+      looked None is = rw (is, asked, idle) omega arith
 
-    by_act : (at : Option Act) → act_now it.client ≡ at → StepsBy r s at it.client old.shared it.client_after new.shared → FallsOrIdles limit it.client old new
-    by_act (Some (act.Update edit)) asked a = turned edit asked a.call_after a.gave it.client_after (behind it.client a.call_after a.gave it.client_after a.now) a.turn it.now
-    by_act (Some other) asked a = absurd a
-    by_act None asked a =
-        let sum = sum_with (client_left limit old.shared.world) (client_left limit old.shared.world) (λ c. omega arith) old.clients place it.client it.client it.was in
-        inr (record { world = rw a.1 refl; work = rw (a.1, it.now, a.0) (omega (arith, sum)); why = inl (rw asked refl) })
+      looked_falls : Looks r s it.client (record { world = old.shared.world; kept = it.kept }) it.client_after (record { world = new.shared.world; kept = it.kept_after }) → FallsOrIdles limit it.client old new
+      looked_falls a =
+          let world : new.shared.world ≡ old.shared.world = ap (λ (view : NodeView). view.world) a.same in
+          inl (falls (λ node is. rw world is) (rw world (looked (found it.kept old.shared.world.version) a.now)))
+
+    by_case : StepCase r s it.client (record { world = old.shared.world; kept = it.kept }) it.client_after (record { world = new.shared.world; kept = it.kept_after }) → FallsOrIdles limit it.client old new
+    by_case (rests none same view) = idles (ap (λ (view : NodeView). view.world) view) (rw same omega arith) (inl (rw none refl))
+    by_case (turns ask asked a) = turned ask asked a.call_after a.gave (behind it.client a.call_after a.gave it.client_after a.now) a.turn
+    by_case (looks asked idle a) = looked_falls asked idle a
 
     -- each step leaves less to do, or nothing comes of it
     steps_fall : FallsOrIdles limit it.client old new
-    steps_fall = by_act (act_now it.client) refl it.steps
+    steps_fall = by_case (step_case r s it.client (record { world = old.shared.world; kept = it.kept }) it.client_after (record { world = new.shared.world; kept = it.kept_after }) it.steps)
 
   -- a round from this state
   module _ (start : RunState) where

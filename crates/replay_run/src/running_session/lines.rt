@@ -1,12 +1,11 @@
 ghost use Rattle.std.specs.Prelude.{◌≡◌, ◌<◌, ◌≤◌, ◌+◌, ℕ, length, All, OnOk, vec_len};
-ghost use Rattle.script_lang.specs.declared.run_line.Act.TheVariants.{Update};
 ghost use Rattle.replay_run.specs.Lines.{Asks, Follows, FollowsAll};
 ghost use Rattle.replay_run.specs.SessionInvariant.{AsksFew, SessionInvariant};
 ghost use Rattle.replay_run.specs.SessionSteps.{CanFollow};
-ghost use Rattle.replay_run.specs.SessionView.{rules_in, state_in, store_in};
+ghost use Rattle.replay_run.specs.SessionView.{rules_in, state_in, store_in, task_seen};
 
 use super::RunningSession;
-use prefs_edit::Edit;
+use crate::task::Task;
 use script_lang::{Act, RunLine};
 use std::alloc::{AllocError, Global};
 
@@ -40,23 +39,24 @@ impl<'s> RunningSession<'s> {
     {
         let place = line.client.0 as usize;
         match &line.act {
-            Act::Update(edit) => self.ask(place, edit),
+            Act::Update(edit) => self.ask(place, Task::Update(edit)),
+            Act::Read => self.ask(place, Task::Read),
             Act::Go(steps) => self.go_times(alloc, place, *steps),
             // No line says these yet.
-            Act::Read | Act::Flow | Act::Post(_) | Act::Restart(_) => unreachable!(),
+            Act::Flow | Act::Post(_) | Act::Restart(_) => unreachable!(),
         }
     }
 
-    /// The client at this place is asked for one more update.
-    fn ask(&mut self, place: usize, edit: &'s Edit) -> Result<(), AllocError>
+    /// The client at this place is asked for one more call.
+    fn ask(&mut self, place: usize, task: Task<'s>) -> Result<(), AllocError>
         requires keeps { SessionInvariant self.old }
         requires within { place < vec_len self.old.clients }
-        ensures asks { OnOk result (Asks place (Update edit.now) (state_in self.old) (state_in self.new)) }
+        ensures asks { OnOk result (Asks place (task_seen task.entry) (state_in self.old) (state_in self.new)) }
         ensures keeps { OnOk result (SessionInvariant self.new) }
         ensures few { OnOk result ((most : ℕ) → AsksFew most self.old → AsksFew (most + 1) self.new) }
         ensures store { store_in self.new.shelf ≡ store_in self.old.shelf }
         ensures clients { vec_len self.new.clients ≡ vec_len self.old.clients }
     {
-        self.clients[place].ask(edit)
+        self.clients[place].ask(task)
     }
 }

@@ -1,8 +1,9 @@
-ghost use Rattle.std.specs.Prelude.{◌≡◌, ◌≤◌, [], false, length, IfOk, OnOk};
+ghost use Rattle.std.specs.Prelude.{◌≡◌, ◌≤◌, [], false, length, map, None, IfOk, OnOk};
 ghost use Rattle.prefs_proto.specs.Reads.{Reads};
 ghost use Rattle.shelf.specs.Base.{HasItsBase};
 ghost use Rattle.shelf.specs.ShelfSeen.{shelf_seen};
 ghost use Rattle.script_lang.specs.Keeps.{Keeps};
+ghost use Rattle.value_cache.specs.Cached.{kept_seen};
 ghost use Rattle.replay_run.specs.NewClients.{AreNew};
 ghost use Rattle.replay_run.specs.PrefsBasis.{prefs_basis};
 ghost use Rattle.replay_run.specs.SessionInvariant.{AsksFew};
@@ -15,11 +16,13 @@ use crate::client::{Client, Settings};
 use crate::main_file::{FILE_LIMIT, base_of, copy_of};
 use folder_disk::MemFolder;
 use hist_journal::Bounds;
+use prefs_model::PrefMap;
 use prefs_proto::PrefsCodec;
 use script_lang::Script;
 use shelf::{AddNodeError, Setup, Shelf};
 use std::alloc::{AllocError, Global};
 use store_traits::{ClientId, NodeId, PlainWord};
+use value_cache::Cache;
 
 /// How much a history weighs once it is full.
 const WEIGHT_LIMIT: u64 = 268_435_456;
@@ -33,10 +36,12 @@ impl<'s> RunningSession<'s> {
         ensures base { IfOk result (λ session. HasItsBase Reads [] (store_in session.shelf)) }
     {
         let mut shelf = open_shelf(alloc, script)?;
-        add_nodes(alloc, &mut shelf, script.names.nodes.names().len() as u32)?;
+        let nodes = script.names.nodes.names().len() as u32;
+        add_nodes(alloc, &mut shelf, nodes)?;
         Ok(RunningSession {
             shelf,
             word: PlainWord::new(),
+            caches: empty_caches(alloc, nodes)?,
             clients: new_clients(alloc, script.homes.as_slice())?,
         })
     }
@@ -75,6 +80,17 @@ fn add_nodes(alloc: Global, shelf: &mut Shelf<Settings>, count: u32) -> Result<(
         }
     }
     Ok(())
+}
+
+/// So many caches that keep nothing.
+fn empty_caches(alloc: Global, count: u32) -> Result<Vec<Cache<PrefMap>>, AllocError>
+    ensures { IfOk result (λ caches. map kept_seen caches.items ≡ map (λ node. None) (first_nodes count)) }
+{
+    let mut caches = Vec::with_capacity(alloc, count as usize)?;
+    for _node in 0..count {
+        caches.push(Cache::new())?;
+    }
+    Ok(caches)
 }
 
 /// A client of each of these nodes.

@@ -23,7 +23,8 @@ impl<'s> RunningSession<'s> {
         ensures asked { AskedAlike self.old self.new }
     {
         let client = &mut self.clients[place];
-        client.go(alloc, &mut self.shelf, &mut self.word)
+        let cache = &mut self.caches[client.node().0 as usize];
+        client.go(alloc, &mut self.shelf, &mut self.word, cache)
     }
 
     /// It does so many steps, as long as it has something to do.
@@ -42,6 +43,9 @@ impl<'s> RunningSession<'s> {
         ensures asked { AskedAlike self.old self.new }
     {
         for _step in 0..steps {
+            if !self.clients[place].is_busy() {
+                break;
+            }
             self.go(alloc, place)?;
         }
         Ok(())

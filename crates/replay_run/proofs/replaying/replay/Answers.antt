@@ -1,5 +1,5 @@
 use Rattle.std.proofs.Common.{rules, ◌≡◌, ◌∙◌, [], ◌∷◌, ◌++◌, map, ap}
-use Rattle.script_lang.specs.declared.transcript.Transcript.{Transcript}
+use Rattle.script_lang.specs.declared.transcripts.transcript.Transcript.{Transcript}
 use Rattle.script_lang.specs.TranscriptView.{session_seen}
 use Rattle.replay_run.proofs.session.NamesTold.{names_well}
 use Rattle.replay_run.proofs.session.SessionRun.{replays_well}

@@ -1,76 +1,57 @@
-use Rattle.std.proofs.Common.{◌≡◌, ◌∙◌, None, Some, refl, sym, ap, subst}
-use Rattle.prefs_edit.specs.contracts.edit.EditTransform.TheImpl as edit
-use Rattle.folder_disk.specs.contracts.mem_folder.MemFolderFolder.TheImpl as folder
-use Rattle.prefs_proto.specs.contracts.prefs_codec.PrefsCodecCodec.TheImpl as codec
-use Rattle.shelf.specs.ShelfSeen.{shelf_seen}
-use Rattle.step_table.specs.Calls.{reply_of}
-use Rattle.step_table.specs.declared.progress.Progress.TheVariants.{Ended}
-use Rattle.node_core.specs.Step.{TurnFrom}
-use Rattle.node_core.specs.Views.{state_seen}
-use Rattle.replay_run.specs.declared.client.Client as own
-use Rattle.replay_run.specs.ClientSteps.{IsAnswered}
-use Rattle.replay_run.specs.SessionView.{client_seen, update_seen}
-use Rattle.replay_run.proofs.session.ClientTurns.{at_home, both_ok, goes_on, goes_still, idle_equipped, kept, may_turn, spares_now, steps_now}
+use Rattle.std.proofs.Common.{◌∙◌, Some, sym, ap}
+use Rattle.value_cache.specs.Cached.{kept_seen}
+use Rattle.replay_run.specs.declared.task.Task.TheVariants as task
+use Rattle.replay_run.specs.SessionView.{view_in}
+use Rattle.replay_run.proofs.session.ClientTurns.{asked, both_ok, fewer_answers, look_steps, new_may, new_steps, running_may, running_steps}
 use Rattle.replay_run.proofs.client.Client.go.Goals as goal
 
-pub step-requires-clause-running : goal.step-requires-clause-running
-step-requires-clause-running c = (kept c.args.shelf.now c.args.self.now c.in-Some.edit c.in_ok-call.call (sym c.edit_now.ensures ∙ c.in-Some.is) c.in_ok-call.ensures.call c.requires.may).goes_on
+pub turn-requires-clause-may : goal.turn-requires-clause-may
+turn-requires-clause-may c =
+    running_may c.args.shelf.now c.args.self.now c.requires.may c.in-Some.task (sym c.task_now.ensures ∙ c.in-Some.is) c.take.new.self c.take.ensures.after c.in-Some-take.call (sym c.take.ensures.value ∙ c.in-Some-take.is)
 
-pub step-requires-clause-node : goal.step-requires-clause-node
-step-requires-clause-node c = at_home c.args.shelf.now c.args.self.now c.in-Some.edit c.in_ok-call.call (sym c.edit_now.ensures ∙ c.in-Some.is) c.in_ok-call.ensures.call c.requires.may
+pub turn-requires-clause-few : goal.turn-requires-clause-few
+turn-requires-clause-few c = fewer_answers c.args.self.now c.in-Some.task 100000 (sym c.task_now.ensures ∙ c.in-Some.is) c.requires.few
 
-pub step-requires-clause-may : goal.step-requires-clause-may
-step-requires-clause-may c = may_turn c.args.shelf.now c.args.self.now c.in-Some.edit c.in_ok-call.call (sym c.edit_now.ensures ∙ c.in-Some.is) c.in_ok-call.ensures.call c.requires.may
+pub new_update-requires : goal.new_update-requires
+new_update-requires c = record { few = fewer_answers c.args.self.now c.in-Some.task 100000 (sym c.task_now.ensures ∙ c.in-Some.is) c.requires.few }
 
-pub returns-in-Moved : goal.returns-in-Moved
-returns-in-Moved c =
+pub turn-requires-in-Update-clause-may : goal.turn-requires-in-Update-clause-may
+turn-requires-in-Update-clause-may c =
+    new_may c.args.shelf.now c.args.self.now c.requires.may (task.Update c.in-Update.edit) (sym c.task_now.ensures ∙ (c.in-Some.is ∙ ap Some c.in-Update.is)) c.take.new.self c.take.ensures.after c.in_ok-call-in-Update.call
+    (sym c.take.ensures.value ∙ c.in-None.is) c.in_ok-call-in-Update.ensures.call
+
+pub turn-requires-in-Update-clause-few : goal.turn-requires-in-Update-clause-few
+turn-requires-in-Update-clause-few c = fewer_answers c.args.self.now c.in-Some.task 100000 (sym c.task_now.ensures ∙ c.in-Some.is) c.requires.few
+
+pub look-requires-clause-few : goal.look-requires-clause-few
+look-requires-clause-few c = fewer_answers c.args.self.now c.in-Some.task 100000 (sym c.task_now.ensures ∙ c.in-Some.is) c.requires.few
+
+pub returns-in-Some-take-clause-steps : goal.returns-in-Some-take-clause-steps
+returns-in-Some-take-clause-steps c =
     let old = c.args.shelf.now in
-    let new = c.step.new.shelf in
     let client = c.args.self.now in
-    let mid = c.take_call.new.self in
-    let edit = c.in-Some.edit in
-    let call = c.in_ok-call.call in
-    let after = c.step.new.self in
-    let step = c.step.ensures in
-    let gave = c.step.result in
-    let found = sym c.edit_now.ensures ∙ c.in-Some.is in
-    let its = c.in_ok-call.ensures.call in
-    let same : record mid { running = Some after } ≡ record client { running = Some after } = ap (λ (x : own.Client). record x { running = Some after }) c.take_call.ensures.kept in
-    record {
-      steps =
-          steps_now old client edit call found its c.requires.may new after gave step.turn refl (record mid { running = Some after })
-          (goes_on (client_seen client) (update_seen after) gave c.in-Moved.is ∙ ap (λ (x : own.Client). Some (client_seen x)) (sym same));
-      equipped = record { equipped = (step.ready (goes_still old client edit call found its c.requires.may new after gave step.turn c.in-Moved.is)).equipped; readiness = step.readiness };
-      spares = spares_now old client edit call found its c.requires.may new after gave step.turn step.waits;
-      kept = same ∙ ap (λ (x : own.Client). record client { running = Some after; answered = x.answered }) (sym c.take_call.ensures.kept);
-      store = step.store;
-      codec = step.codec;
-      number = step.number;
-    }
+    let its = asked old client c.requires.may c.in-Some.task (sym c.task_now.ensures ∙ c.in-Some.is) in
+    both_ok c.turn.result c.turn.ensures.steps c.turn.ensures.steps
+    (λ turn again.
+    running_steps old client c.turn.new.self c.take.new.self (view_in old c.args.cache.now) (view_in c.turn.new.shelf c.turn.new.cache) c.in-Some-take.call turn c.in-Some.task its
+    (sym c.take.ensures.value ∙ c.in-Some-take.is))
 
-pub returns-in-Ended-clause-steps : goal.returns-in-Ended-clause-steps
-returns-in-Ended-clause-steps c =
+pub returns-in_ok-call-in-Update-clause-steps : goal.returns-in_ok-call-in-Update-clause-steps
+returns-in_ok-call-in-Update-clause-steps c =
     let old = c.args.shelf.now in
-    let new = c.step.new.shelf in
     let client = c.args.self.now in
-    let call = c.in_ok-call.call in
-    let after = c.step.new.self in
-    let step = c.step.ensures in
-    let answer = c.in-Ended.answer in
-    let found = sym c.edit_now.ensures ∙ c.in-Some.is in
-    let its = c.in_ok-call.ensures.call in
-    let turn : TurnFrom codec.ghosts edit.ghosts folder.ghosts call.origin (state_seen call.state) (shelf_seen old) (Ended answer) after.origin (state_seen after.state) (shelf_seen new) =
-    subst (λ g. TurnFrom codec.ghosts edit.ghosts folder.ghosts call.origin (state_seen call.state) (shelf_seen old) g after.origin (state_seen after.state) (shelf_seen new)) c.in-Ended.is step.turn in
-    both_ok c.end.result c.end.ensures.answered c.end.ensures.answered
-    (λ answered again.
-    let told : IsAnswered client (reply_of answer) c.end.new.self = subst (λ (x : own.Client). IsAnswered x (reply_of answer) c.end.new.self) c.take_call.ensures.kept answered in
-    steps_now old client c.in-Some.edit call found its c.requires.may new after (Ended answer) turn refl c.end.new.self
-    (told (update_seen after) (step.call ∙ (kept old client c.in-Some.edit call found its c.requires.may).id)))
+    let edit = c.in-Update.edit in
+    let its = asked old client c.requires.may (task.Update edit) (sym c.task_now.ensures ∙ (c.in-Some.is ∙ ap Some c.in-Update.is)) in
+    both_ok c.turn-in-Update.result c.turn-in-Update.ensures.steps c.turn-in-Update.ensures.steps
+    (λ turn again.
+    new_steps old client c.turn-in-Update.new.self c.take.new.self (view_in old c.args.cache.now) (view_in c.turn-in-Update.new.shelf c.turn-in-Update.new.cache) c.in_ok-call-in-Update.call turn edit.now its
+    (sym c.take.ensures.value ∙ c.in-None.is) c.in_ok-call-in-Update.ensures.call)
 
-pub returns-in-Ended-clause-equipped : goal.returns-in-Ended-clause-equipped
-returns-in-Ended-clause-equipped c =
-    let idle : c.end.new.self.running ≡ None = ap (λ (x : own.Client). x.running) c.end.ensures.kept ∙ ap (λ (x : own.Client). x.running) c.take_call.ensures.kept in
-    both_ok c.end.result c.end.ensures.answered c.end.ensures.answered (λ answered again. idle_equipped c.step.new.shelf c.end.new.self idle)
-
-pub returns-in-Ended-clause-spares : goal.returns-in-Ended-clause-spares
-returns-in-Ended-clause-spares c = spares_now c.args.shelf.now c.args.self.now c.in-Some.edit c.in_ok-call.call (sym c.edit_now.ensures ∙ c.in-Some.is) c.in_ok-call.ensures.call c.requires.may c.step.new.shelf c.step.new.self c.step.result c.step.ensures.turn c.step.ensures.waits
+pub returns-in-Read-clause-steps : goal.returns-in-Read-clause-steps
+returns-in-Read-clause-steps c =
+    let old = c.args.shelf.now in
+    let client = c.args.self.now in
+    let its = asked old client c.requires.may task.Read (sym c.task_now.ensures ∙ (c.in-Some.is ∙ ap Some c.in-Read.is)) in
+    both_ok c.look.result c.look.ensures.looks c.look.ensures.looks
+    (λ looks again.
+    look_steps old client c.look.new.self c.take.new.self (kept_seen c.args.cache.now) c.load.result its (sym c.take.ensures.value ∙ c.in-None.is) (c.load.ensures.value ∙ c.requires.number) looks)

@@ -9,11 +9,13 @@ returns-clause-asks c =
     let old = c.args.self.now in
     let client = c.index_mut.result.now in
     let found = slice_get_read old.clients.items (vec_len old.clients) c.args.place client old.clients.ok.0 c.requires.within c.index_mut.ensures.value in
-    both_ok c.ask.result c.ask.ensures.same c.ask.ensures.asked (λ same asked. asks_now old c.args.place client c.ask.new.self c.args.edit found same asked)
+    both_ok c.ask.result c.ask.ensures.same c.ask.ensures.asked (λ same asked. asks_now old c.args.place client c.ask.new.self c.args.task found same asked)
 
 pub returns-clause-keeps : goal.returns-clause-keeps
 returns-clause-keeps c =
     let old = c.args.self.now in
     let client = c.index_mut.result.now in
     let found = slice_get_read old.clients.items (vec_len old.clients) c.args.place client old.clients.ok.0 c.requires.within c.index_mut.ensures.value in
-    both_ok c.ask.result c.ask.ensures.same c.ask.ensures.asked (λ same asked. asking_keeps old c.args.place client c.ask.new.self c.args.edit found same asked c.requires.keeps)
+    both_ok c.ask.result c.ask.ensures.same c.ask.ensures.asked (λ same asked.
+    let keeps = asking_keeps old c.args.place client c.ask.new.self c.args.task found same asked c.requires.keeps in
+    record { state = keeps.state; spare = keeps.spare; number = keeps.number; nodes = keeps.nodes; equipped = keeps.equipped })

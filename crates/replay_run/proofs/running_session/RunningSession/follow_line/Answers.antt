@@ -1,5 +1,5 @@
 use Rattle.std.proofs.Common.{◌+◌, sym, subst, arith}
-use Rattle.script_lang.specs.declared.run_line.Act.{Act}
+use Rattle.script_lang.specs.declared.plan.run_line.Act.{Act}
 use Rattle.replay_run.specs.Lines.{Follows}
 use Rattle.replay_run.specs.SessionView.{rules_in, state_in, store_in}
 use Rattle.replay_run.proofs.session.ClientTurns.{both_ok}
@@ -11,6 +11,12 @@ returns-in-Update-clause-follows c =
     let old = c.args.self.now in
     both_ok c.ask.result c.ask.ensures.asks c.ask.ensures.asks
     (λ asks again. subst (λ (act : Act). Follows (rules_in old.shelf) (store_in old.shelf) c.args.line.now.client.0 act (state_in old) (state_in c.ask.new.self)) (sym c.in-Update.is) asks)
+
+pub returns-in-Read-clause-follows : goal.returns-in-Read-clause-follows
+returns-in-Read-clause-follows c =
+    let old = c.args.self.now in
+    both_ok c.ask-in-Read.result c.ask-in-Read.ensures.asks c.ask-in-Read.ensures.asks
+    (λ asks again. subst (λ (act : Act). Follows (rules_in old.shelf) (store_in old.shelf) c.args.line.now.client.0 act (state_in old) (state_in c.ask-in-Read.new.self)) (sym c.in-Read.is) asks)
 
 pub returns-in-Go-clause-follows : goal.returns-in-Go-clause-follows
 returns-in-Go-clause-follows c =

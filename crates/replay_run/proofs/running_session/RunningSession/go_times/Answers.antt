@@ -1,10 +1,12 @@
-use Rattle.std.proofs.Common.{◌≡◌, ◌∙◌, refl, subst, arith}
-use Rattle.replay_run.specs.Lines.{StepsTimes}
-use Rattle.replay_run.specs.SessionView.{rules_in, state_in, store_in}
+use Rattle.std.proofs.Common.{◌≡◌, ◌∙◌, false, refl, sym, subst, vec_len}
+use Rattle.std.proofs.lemmas.Option.{slice_get_read}
+use Rattle.replay_run.specs.RunState.{is_busy}
+use Rattle.replay_run.specs.SessionView.{client_seen, rules_in, state_in, store_in}
 use Rattle.replay_run.specs.Settings.{PrefStore}
 use Rattle.replay_run.specs.Steps.{StepsAt}
 use Rattle.replay_run.proofs.session.SessionAsked.{few_on, place_on}
-use Rattle.replay_run.proofs.work.RunLemmas.{times_more, times_none}
+use Rattle.replay_run.proofs.session.SessionTurns.{at_home, seen_at}
+use Rattle.replay_run.proofs.work.RunLemmas.{rests, times_more, times_none, times_up_to}
 use Rattle.replay_run.proofs.running_session.RunningSession.go_times.Goals as goal
 
 pub loop-step-init : goal.loop-step-init
@@ -12,20 +14,8 @@ loop-step-init c =
     let old = c.args.self.now in
     record { steps = times_none (rules_in old.shelf) (store_in old.shelf) c.args.place (state_in old); on = record { keeps = c.requires.keeps; store = refl; asked = refl } }
 
-pub go-requires-clause-keeps : goal.go-requires-clause-keeps
-go-requires-clause-keeps c = c.loop-step.invariant.on.keeps
-
 pub go-requires-clause-few : goal.go-requires-clause-few
 go-requires-clause-few c = few_on 100000 c.args.self.now c.loop-step.self c.loop-step.invariant.on.asked c.requires.few
-
-pub go-requires-clause-within : goal.go-requires-clause-within
-go-requires-clause-within c = place_on c.args.self.now c.loop-step.self c.args.place c.loop-step.invariant.on c.requires.within
-
-pub returns-in_err-go-clause-store : goal.returns-in_err-go-clause-store
-returns-in_err-go-clause-store c = c.go.ensures.store ∙ c.loop-step.invariant.on.store
-
-pub returns-in_err-go-clause-asked : goal.returns-in_err-go-clause-asked
-returns-in_err-go-clause-asked c = c.go.ensures.asked ∙ c.loop-step.invariant.on.asked
 
 pub loop-step-preserved : goal.loop-step-preserved
 loop-step-preserved c =
@@ -39,17 +29,14 @@ loop-step-preserved c =
       on = record { keeps = c.in_ok-go.ensures.keeps; store = c.go.ensures.store ∙ on.store; asked = c.go.ensures.asked ∙ on.asked };
     }
 
-pub returns-clause-steps : goal.returns-clause-steps
-returns-clause-steps c =
+pub returns-then-not-is_busy-clause-steps : goal.returns-then-not-is_busy-clause-steps
+returns-then-not-is_busy-clause-steps c =
     let old = c.args.self.now in
-    let same : c.loop-step._step ≡ c.args.steps = omega (arith, c.loop-step-test.false, c.loop-step.auto._step-end) in
-    subst (λ n. StepsTimes (rules_in old.shelf) (store_in old.shelf) c.args.place n (state_in old) (state_in c.loop-step.self)) same c.loop-step.invariant.steps
-
-pub returns-clause-keeps : goal.returns-clause-keeps
-returns-clause-keeps c = c.loop-step.invariant.on.keeps
-
-pub returns-clause-store : goal.returns-clause-store
-returns-clause-store c = c.loop-step.invariant.on.store
-
-pub returns-clause-asked : goal.returns-clause-asked
-returns-clause-asked c = c.loop-step.invariant.on.asked
+    let mid = c.loop-step.self in
+    let it = c.loop-step.invariant in
+    let client = c.index.result.now in
+    let within = place_on old mid c.args.place it.on c.requires.within in
+    let found = slice_get_read mid.clients.items (vec_len mid.clients) c.args.place client mid.clients.ok.0 within c.index.ensures in
+    let idle : is_busy (client_seen client) ≡ false = sym c.is_busy.ensures ∙ c.if-not-is_busy.true in
+    times_up_to (rules_in old.shelf) (store_in old.shelf) c.args.place c.loop-step._step c.args.steps (state_in old) (state_in mid) c.loop-step.auto._step-end it.steps
+    (rests (rules_in old.shelf) (store_in old.shelf) c.args.place (state_in mid) (client_seen client) (seen_at mid c.args.place client found) idle (at_home mid c.args.place client found it.on.keeps))

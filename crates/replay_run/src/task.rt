@@ -1,0 +1,8 @@
+use prefs_edit::Edit;
+
+/// What a client is asked for. The edit of an update stays in the script.
+#[derive(Clone, Copy)]
+pub(crate) enum Task<'s> {
+    Update(&'s Edit),
+    Read,
+}
