@@ -6,8 +6,8 @@ use base.Stored.{Coded-set}
 use Rattle.byte_io.specs.Seen.{SinkSeen, SourceSeen}
 use Rattle.prefs_proto.specs.Laws.OneReading.{reads_once}
 use Rattle.script_lang.specs.TranscriptText as transcript
-use Rattle.script_lang.specs.declared.mode.Mode.TheVariants as mode
-use Rattle.script_lang.specs.declared.script.Script.{Script}
+use Rattle.script_lang.specs.declared.plan.mode.Mode.TheVariants as mode
+use Rattle.script_lang.specs.declared.plan.script.Script.{Script}
 use Rattle.script_lang.proofs.ScriptLaws.{one_script}
 use Rattle.replay_run.specs.PrefsBasis.{prefs_basis}
 use Rattle.replay_run.specs.ScriptRun.{Runs}

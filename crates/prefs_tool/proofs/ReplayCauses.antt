@@ -5,8 +5,8 @@ use Rattle.byte_io.specs.ReadAll.{TakesFront}
 use Rattle.byte_io.specs.Seen.{SinkSeen, SourceSeen}
 use Rattle.command_words.specs.declared.command.Command.TheVariants.{Replay}
 use Rattle.script_lang.specs.Meaning.{Faulty, Means}
-use Rattle.script_lang.specs.declared.mode.Mode.TheVariants as mode
-use Rattle.script_lang.specs.declared.script.Script.{Script}
+use Rattle.script_lang.specs.declared.plan.mode.Mode.TheVariants as mode
+use Rattle.script_lang.specs.declared.plan.script.Script.{Script}
 use Rattle.script_lang.proofs.ScriptLaws.{no_fault}
 use Rattle.prefs_tool.specs.Complete.{AreSound, IsDone, IsScript}
 use Rattle.prefs_tool.specs.Outcome.{Reports}

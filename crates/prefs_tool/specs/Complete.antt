@@ -4,8 +4,8 @@ use Rattle.store_traits.specs.Faults.{Rose}
 use Rattle.byte_io.specs.Seen.{SinkSeen, SourceSeen}
 use Rattle.folder_disk.specs.Seen.{FolderSeen}
 use Rattle.script_lang.specs.Meaning.{Means}
-use Rattle.script_lang.specs.declared.mode.Mode.TheVariants as mode
-use Rattle.script_lang.specs.declared.script.Script.{Script}
+use Rattle.script_lang.specs.declared.plan.mode.Mode.TheVariants as mode
+use Rattle.script_lang.specs.declared.plan.script.Script.{Script}
 use Rattle.prefs_model.specs.declared.pref_pair.PrefPair.{PrefPair}
 use Rattle.prefs_proto.specs.Encoded.{encoded}
 use Rattle.prefs_edit.specs.declared.edit_step.EditStep.{EditStep}

@@ -6,11 +6,11 @@ use Rattle.byte_io.specs.Seen.{SinkSeen, SourceSeen}
 use Rattle.byte_io.specs.declared.read_all_error.ReadAllError.TheVariants as reading
 use Rattle.script_lang.specs.Meaning.{Faulty, Means}
 use Rattle.script_lang.specs.TranscriptText as transcript
-use Rattle.script_lang.specs.declared.mode.Mode.TheVariants as mode
-use Rattle.script_lang.specs.declared.script.Script.{Script}
-use Rattle.script_lang.specs.declared.script_error.ScriptFault.{ScriptFault}
-use Rattle.script_lang.specs.declared.script_error.ScriptFault.TheVariants as fault
-use Rattle.script_lang.specs.declared.transcript.Transcript.{Transcript}
+use Rattle.script_lang.specs.declared.plan.mode.Mode.TheVariants as mode
+use Rattle.script_lang.specs.declared.plan.script.Script.{Script}
+use Rattle.script_lang.specs.declared.parsing.script_error.ScriptFault.{ScriptFault}
+use Rattle.script_lang.specs.declared.parsing.script_error.ScriptFault.TheVariants as fault
+use Rattle.script_lang.specs.declared.transcripts.transcript.Transcript.{Transcript}
 use Rattle.replay_run.specs.PrefsBasis.{prefs_basis}
 use Rattle.replay_run.specs.Replays.{Replays}
 use Rattle.prefs_tool.specs.Ending.{EndsWith}

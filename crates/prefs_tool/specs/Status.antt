@@ -4,8 +4,8 @@ use Rattle.prefs_tool.specs.declared.status.Status.{Status}
 use Rattle.prefs_tool.specs.declared.status.Status.TheVariants.{Done, Words, Script, Storage, Corrupt, Refused, ReadFault, WriteFault, NoMemory, NoKey}
 use Rattle.prefs_tool.specs.declared.tool_error.ToolError.{ToolError}
 use Rattle.prefs_tool.specs.declared.tool_error.ToolError.TheVariants as error
-use Rattle.script_lang.specs.declared.script_error.ScriptFault.{ScriptFault}
-use Rattle.script_lang.specs.declared.script_error.ScriptFault.TheVariants as fault
+use Rattle.script_lang.specs.declared.parsing.script_error.ScriptFault.{ScriptFault}
+use Rattle.script_lang.specs.declared.parsing.script_error.ScriptFault.TheVariants as fault
 
 -- the exit status of the program
 abbrev pub code_of : Status → ℕ

@@ -4,7 +4,7 @@ ghost use Rattle.byte_io.specs.Seen.{SinkSeen, SourceSeen};
 ghost use Rattle.folder_disk.specs.Seen.{FolderSeen};
 ghost use Rattle.command_words.specs.declared.command.Command.{Command};
 ghost use Rattle.command_words.specs.declared.command.Command.TheVariants.{Replay};
-ghost use Rattle.script_lang.specs.declared.script.Script.{Script};
+ghost use Rattle.script_lang.specs.declared.plan.script.Script.{Script};
 ghost use Rattle.prefs_tool.specs.declared.status.Status.{Status};
 ghost use Rattle.prefs_tool.specs.declared.status.Status.TheVariants as ended;
 ghost use Rattle.prefs_tool.specs.Complete.{AreSound, IsDone, IsScript, IsToldBy, NothingAgainst};

@@ -2,7 +2,7 @@
 use Rattle.std.proofs.lemmas.Result.{err_from_is_err_and}
 use Rattle.byte_io.specs.Seen.{sink_seen, source_seen}
 use Rattle.script_lang.proofs.KeepsLemmas.{script_keeps}
-use Rattle.script_lang.specs.declared.mode.Mode.TheVariants.{Replay}
+use Rattle.script_lang.specs.declared.plan.mode.Mode.TheVariants.{Replay}
 use Rattle.prefs_tool.proofs.ReplayLemmas.{run_ends, run_stops, script_stops}
 use Rattle.prefs_tool.proofs.replay.print_run.Goals as goal
 
