@@ -2,6 +2,8 @@
 //! that took. It stands on the crates whose work it does. `bench/run` builds and runs it.
 #![tactic(auto)]
 
+mod looks;
+mod reads;
 mod replays;
 mod room;
 mod scripts;
@@ -75,7 +77,9 @@ fn shown(alloc: Global, bytes: &[u8]) -> Result<u64> {
 /// `ds_bench transcript LINES TIMES` prints that word, the lines, how many transcripts of so many lines are written
 /// in a round, and the nanoseconds of the fastest of so many rounds.
 /// `ds_bench scripts` reads a script of 10,000 lines and one of 100,000.
-/// `ds_bench replay` replays scripts of 1,000 and of 20,000 updates over two clients.
+/// `ds_bench replay` replays scripts of 1,000 and of 20,000 updates over two clients, and `ds_bench reads` scripts of 1,000,
+/// of 5,000 and of 20,000 reads.
+/// `ds_bench look` looks in a cache, and makes owners of a value, a million times each.
 /// Without words it does nothing.
 fn main(rt: HostRuntime) -> Result<()> {
     let mut words = env::args(&rt)?;
@@ -86,6 +90,8 @@ fn main(rt: HostRuntime) -> Result<()> {
     match name.as_str() {
         "scripts" => return scripts::run(&rt),
         "replay" => return replays::run(&rt),
+        "reads" => return reads::run(&rt),
+        "look" => return looks::run(&rt),
         _ => {}
     }
     let place = words

@@ -1,4 +1,4 @@
--- One update at a time.
+-- Calls that go on, and one update at a time.
 use Rattle.std.specs.Prelude.{◌≡◌, Bool, true, false, List, ◌++◌, Some}
 use Rattle.std.specs.List.{list_any}
 use Rattle.store_traits.specs.declared.codec.Codec as codec_trait
@@ -28,10 +28,14 @@ module _ {V T : Type 0} where
     pub added : now ≡ list ++ more
     pub unseen : (sees : EntrySeen V T → Bool) → ((kind : KindSeen V T) → sees (record { who = call; kind = kind }) ≡ false) → list_any sees more ≡ false
 
--- a call goes on that is ready for its next turn, and nobody else owns the lock
-pub record IsAlone {C F V T : Type 0} (c : codec_trait.Ghosts C V) (t : transform_trait.Ghosts T V) (f : folder_trait.Ghosts F) (origin : Origin) (initialised : Bool) (at : At V T) (s : ShelfSeen C F V T) : Type 0 where
-  pub goes_on : is_gone at ≡ false
+-- a call goes on that is ready for its next turn
+pub record GoesOn {C F V T : Type 0} (c : codec_trait.Ghosts C V) (t : transform_trait.Ghosts T V) (f : folder_trait.Ghosts F) (origin : Origin) (at : At V T) (s : ShelfSeen C F V T) : Type 0 where
+  pub runs : is_gone at ≡ false
   pub node : is_among origin.call.node s.store.nodes ≡ true
   pub ready : Ready c t f origin at s
+
+-- and nobody else owns the lock; a node that the call has initialised is so at its next first turn
+pub record IsAlone {C F V T : Type 0} (c : codec_trait.Ghosts C V) (t : transform_trait.Ghosts T V) (f : folder_trait.Ghosts F) (origin : Origin) (initialised : Bool) (at : At V T) (s : ShelfSeen C F V T) : Type 0 where
+  pub goes : GoesOn c t f origin at s
   pub readiness : initialised ≡ true → is_first at ≡ true → is_ready origin.call.node s.list ≡ true
   pub owner : (call : CallId) → s.owner ≡ Some call → call ≡ origin.call

@@ -6,6 +6,10 @@
 #[cfg(test)]
 mod alone;
 #[cfg(test)]
+mod read_tests;
+#[cfg(test)]
+mod reads;
+#[cfg(test)]
 mod sessions;
 #[cfg(test)]
 mod shelf_laws;

@@ -1,4 +1,5 @@
 //! Sessions of a node with settings over a folder in memory, and what is seen of them.
+ghost use Rattle.std.specs.Bool.{OnTrue};
 ghost use Rattle.std.specs.Prelude.{IfSome, IsTrue};
 ghost use Rattle.hist_journal.specs.View.{base_seen};
 ghost use Rattle.shelf.specs.Base.{ReadsAs};
@@ -18,6 +19,9 @@ use store_traits::{CallId, ClientId, Codec, Decoded, FileBytes, NodeId};
 
 pub type Prefs = PrefsParts<MemFolder>;
 
+/// More entries than any test makes.
+const MANY: u64 = 100;
+
 /// The first call of a client.
 pub const A: CallId = CallId {
     node: NodeId(0),
@@ -32,18 +36,38 @@ pub const A_NEXT: CallId = CallId {
     number: 2,
 };
 
+/// The calls of a client of another node, one after the other.
+pub const B: CallId = CallId {
+    node: NodeId(1),
+    client: ClientId(1),
+    number: 1,
+};
+
+pub const B_NEXT: CallId = CallId {
+    node: NodeId(1),
+    client: ClientId(1),
+    number: 2,
+};
+
+pub const B_LAST: CallId = CallId {
+    node: NodeId(1),
+    client: ClientId(1),
+    number: 3,
+};
+
 /// A session of one node, over a folder whose main reads as this base.
 fn session<P: Parts>(
     alloc: Global,
     codec: P::C,
     folder: P::F,
     base: Base<ValueOf<P>>,
+    entries: u64,
 ) -> Option<Shelf<P>>
     requires base { IsTrue P.F.told → ReadsAs (P.C.reads codec) (P.C.default_of codec) 1048576 (P.F.contents folder).main (base_seen base) }
     ensures { IfSome result (λ shelf. IsFresh A (shelf_seen shelf)) }
 {
     let bounds = Bounds {
-        entries: 100,
+        entries,
         weight: 1000,
     };
     let setup = Setup {
@@ -58,8 +82,24 @@ fn session<P: Parts>(
     Some(shelf)
 }
 
+/// A second node joins a session in which nothing has happened.
+pub fn join<P: Parts>(alloc: Global, shelf: &mut Shelf<P>) -> bool
+    requires { IsFresh A (shelf_seen shelf.old) }
+    ensures first { OnTrue result (IsFresh A (shelf_seen shelf.new)) }
+    ensures second { OnTrue result (IsFresh B (shelf_seen shelf.new)) }
+{
+    shelf.add_node(alloc, B.node).is_ok()
+}
+
 /// A session without a file, in which these calls of the folder fail.
 pub fn without_file(alloc: Global, failing: Vec<Planned>) -> Option<Shelf<Prefs>>
+    ensures { IfSome result (λ shelf. IsFresh A (shelf_seen shelf)) }
+{
+    of_length(alloc, failing, MANY)
+}
+
+/// A session without a file, in which these calls of the folder fail, and so many entries make a full history.
+pub fn of_length(alloc: Global, failing: Vec<Planned>, entries: u64) -> Option<Shelf<Prefs>>
     ensures { IfSome result (λ shelf. IsFresh A (shelf_seen shelf)) }
 {
     let Ok(folder) = MemFolder::new(alloc, MainRead::Absent, failing) else {
@@ -71,7 +111,7 @@ pub fn without_file(alloc: Global, failing: Vec<Planned>) -> Option<Shelf<Prefs>
     let Ok(settings) = Arc::new(alloc, settings) else {
         return None;
     };
-    session(alloc, PrefsCodec, folder, Base::Held(settings))
+    session(alloc, PrefsCodec, folder, Base::Held(settings), entries)
 }
 
 /// A session over a file of these bytes, which are a map of settings.
@@ -91,7 +131,7 @@ pub fn with_file(alloc: Global, bytes: Vec<u8>) -> Option<Shelf<Prefs>>
     let Ok(folder) = MemFolder::new(alloc, main, Vec::new(alloc)) else {
         return None;
     };
-    session(alloc, PrefsCodec, folder, Base::Held(settings))
+    session(alloc, PrefsCodec, folder, Base::Held(settings), MANY)
 }
 
 fn key(alloc: Global, name: &str) -> Option<PrefKey> {
@@ -128,6 +168,12 @@ fn name_of(call: CallId) -> &'static str {
         "a1"
     } else if call == A_NEXT {
         "a2"
+    } else if call == B {
+        "b1"
+    } else if call == B_NEXT {
+        "b2"
+    } else if call == B_LAST {
+        "b3"
     } else {
         "nobody"
     }

@@ -1,4 +1,6 @@
-//! The laws of `shelf`, called at the types of its small store, its worked histories, and the worked runs of `step_table`.
+//! The laws of `shelf` and what follows of them for a cache, called at the types of its small store, its worked histories,
+//! and the worked runs of `step_table`.
+use node_core::looks_find_what_is_now;
 use prefs_edit::Edit;
 use prefs_proto::PrefsCodec;
 use shelf::{
@@ -21,6 +23,7 @@ fn the_laws_are_those_of_concrete_stores() {
     images_hold_what_is_synced::<u64, ExampleEdit, ()>();
     lawful_has_a_test::<u64, ExampleEdit, ()>();
     causes_have_a_test::<PrefsCodec, Edit, ()>();
+    looks_find_what_is_now::<u64, ExampleEdit, ()>();
 }
 
 #[test]

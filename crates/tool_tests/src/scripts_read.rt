@@ -14,12 +14,13 @@ const FAULTY: [&str; 5] = [
 ];
 
 /// Each of these is one.
-const SCRIPTS: [&str; 6] = [
+const SCRIPTS: [&str; 7] = [
     "",
     "\n",
     "# node\n\n#\n",
     "node n1",
     "file none\nhistory 100000\nnode n1\nnode n2\nclient a on n2\nclient b on n1\ngo a 0\ngo b 1000\n",
+    "node n1\nclient a on n1\na read\na update clear\ngo a 7\na read",
     "node n1\nclient once on n1\nonce update set \"a b\" texts [\"x\", \"y ; z\"]",
 ];
 
@@ -133,7 +134,7 @@ fn the_next_client_is_refused(rt: HostRuntime) {
 
 /// What the tests below look into.
 const SCRIPT: &[u8] =
-    b"file 0aff\nhistory 7\nnode m\nnode n\nclient a on n\nclient b on m\nb update clear\ngo a 3\n";
+    b"file 0aff\nhistory 7\nnode m\nnode n\nclient a on n\nclient b on m\nb update clear\na read\ngo a 3\n";
 
 fn are_named(alloc: Global) -> Option<bool> {
     let script = parse_script(alloc, SCRIPT, Mode::Replay).ok()?;
@@ -182,14 +183,16 @@ fn are_in_order(alloc: Global) -> Option<bool> {
     let [session] = script.sessions.as_slice() else {
         return None;
     };
-    let [first, second] = session.lines.as_slice() else {
+    let [first, second, third] = session.lines.as_slice() else {
         return None;
     };
     Some(
         first.client == ClientId(1)
             && matches!(&first.act, Act::Update(_))
             && second.client == ClientId(0)
-            && matches!(&second.act, Act::Go(3)),
+            && matches!(&second.act, Act::Read)
+            && third.client == ClientId(0)
+            && matches!(&third.act, Act::Go(3)),
     )
 }
 

@@ -2,7 +2,7 @@ use Rattle.std.proofs.Common.{◌≡◌, ◌∙◌, List, [], ◌∷◌, ◌++�
 use Rattle.std.specs.Prelude.{All, map}
 use Rattle.std.proofs.lemmas.List.{map-append}
 use Rattle.std.proofs.lemmas.List.Elements.{All-append, All-cons, All-nil}
-use Rattle.script_lang.specs.declared.session.Session.{Session}
+use Rattle.script_lang.specs.declared.transcripts.session.Session.{Session}
 use Rattle.script_lang.specs.TranscriptText.{SessionHasNames}
 use Rattle.script_lang.specs.TranscriptView.{SessionSeen, session_seen}
 use Rattle.tool_tests.proofs.transcripts_written.sessions.Goals as goal
