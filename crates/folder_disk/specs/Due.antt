@@ -1,5 +1,5 @@
 -- What decides which calls of a folder fail, where the folder tells it.
-use Rattle.std.specs.Prelude.{ℕ, ◌+◌, ◌-◌, ◌==◌, Bool, ◌&&◌, ◌||◌, List, [], ◌∷◌, if◌then◌else◌}
+use Rattle.std.specs.Prelude.{ℕ, ◌+◌, ◌-◌, ◌*◌, ◌==◌, nat_le, Bool, ◌&&◌, ◌||◌, List, [], ◌∷◌, if◌then◌else◌}
 use Rattle.std.specs.List.{list_any}
 use Rattle.store_traits.specs.Faults.{one_more}
 use Rattle.folder_disk.specs.declared.call.FolderCall.{FolderCall}
@@ -37,6 +37,19 @@ kind_of Append = 2
 kind_of SyncScratch = 3
 kind_of Rename = 4
 kind_of SyncFolder = 5
+
+-- planned failures go by their number, and by the kind of call where numbers are equal
+abbrev pub rank : Planned → ℕ
+rank p = p.number * 6 + kind_of p.call
+
+unfoldable pub placed : Planned → List Planned → List Planned
+placed p [] = p ∷ []
+placed p (q ∷ planned) = if nat_le (rank p) (rank q) then p ∷ q ∷ planned else q ∷ placed p planned
+
+-- planned failures in the order in which they are due
+unfoldable pub in_order : List Planned → List Planned
+in_order [] = []
+in_order (p ∷ planned) = placed p (in_order planned)
 
 -- whether the next such call is planned to fail
 abbrev pub is_planned : FolderCall → CallCounts → List Planned → Bool

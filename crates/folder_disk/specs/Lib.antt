@@ -1,6 +1,8 @@
 pub mod Calls
 pub mod Contents
 pub mod Due
+pub mod FuseFolder
+pub mod Lending
 pub mod MainRead
 pub mod Mains
 pub mod MemFolder
@@ -8,4 +10,5 @@ pub mod MemScratch
 pub mod Planned
 pub mod Room
 pub mod Seen
+pub mod Stops
 pub mod Tally

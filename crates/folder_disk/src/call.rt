@@ -1,5 +1,5 @@
-ghost use Rattle.std.specs.Prelude.{◌≡◌, ◌<◌, ◌+◌, ◌^◌, ◌==◌, ◌&&◌, IsTrue};
-ghost use Rattle.folder_disk.specs.Due.{count_of, counted, kind_of};
+ghost use Rattle.std.specs.Prelude.{◌≡◌, ◌<◌, ◌+◌, ◌*◌, ◌^◌, ◌==◌, ◌&&◌, IsTrue};
+ghost use Rattle.folder_disk.specs.Due.{count_of, counted, kind_of, rank};
 ghost use Rattle.folder_disk.specs.Planned.{no_calls};
 
 /// The calls of a folder that reach the device.
@@ -13,6 +13,15 @@ pub enum FolderCall {
     SyncFolder,
 }
 
+impl FolderCall {
+    // The rank of a failure of the call that follows `made` calls of this kind.
+    pub(crate) fn next_rank(self, made: u64) -> u128
+        ensures { result ≡ (made + 1) * 6 + kind_of self }
+    {
+        (u128::from(made) + 1) * 6 + self as u128
+    }
+}
+
 /// A failure that is planned: of this kind of call, the one with this number in its session, from 1 on.
 #[derive(Clone, Copy, Debug, PartialEq, Eq)]
 pub struct Planned {
@@ -21,6 +30,13 @@ pub struct Planned {
 }
 
 impl Planned {
+    // Planned failures go by their number, and by the kind of call where numbers are equal.
+    pub(crate) fn rank(&self) -> u128
+        ensures { result ≡ rank self.now }
+    {
+        u128::from(self.number) * 6 + self.call as u128
+    }
+
     // Whether it is of the call that follows `made` calls of this kind.
     pub(crate) fn is_next(&self, call: FolderCall, made: u64) -> bool
         ensures value { result ≡ ((kind_of self.now.call == kind_of call) && (self.now.number == made + 1)) }

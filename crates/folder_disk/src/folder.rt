@@ -22,6 +22,9 @@ pub trait Folder: Drop {
     /// The count of faults, what it does not pass, and what decides which calls fail.
     ghost tally: { Self → Tally };
 
+    /// Whether a call that fails leaves all that such a folder holds, the scratch file too.
+    ghost spares: { Bool };
+
     /// What the writing calls may do without memory.
     ghost room: { Self → Room };
 
@@ -54,6 +57,7 @@ pub trait Folder: Drop {
         requires { 1 ≤ (room self.old).creates }
         ensures ok { IsTrue told → OnOk result (ChangesScratch (Unsynced []) (contents self.old) (contents self.new)) }
         ensures err { IsTrue told → OnErr result (LoosensScratch (contents self.old) (contents self.new)) }
+        ensures spared { IsTrue told → IsTrue spares → OnErr result (contents self.new ≡ contents self.old) }
         ensures tally { Tallies told FolderCall.Create (is_err result) (tally self.old) (tally self.new) }
         ensures room { Uses 1 0 0 (room self.old) (room self.new) };
 
@@ -63,6 +67,7 @@ pub trait Folder: Drop {
         requires there { IsTrue told → IsThere (contents self.old).scratch }
         ensures ok { IsTrue told → OnOk result (ChangesScratch (Unsynced (scratch_bytes (contents self.old).scratch ++ piece.now)) (contents self.old) (contents self.new)) }
         ensures err { IsTrue told → OnErr result (LoosensScratch (contents self.old) (contents self.new)) }
+        ensures spared { IsTrue told → IsTrue spares → OnErr result (contents self.new ≡ contents self.old) }
         ensures tally { Tallies told FolderCall.Append (is_err result) (tally self.old) (tally self.new) }
         ensures room { Uses 0 (length piece.now) 0 (room self.old) (room self.new) };
 
@@ -71,6 +76,7 @@ pub trait Folder: Drop {
         requires there { IsTrue told → IsThere (contents self.old).scratch }
         ensures ok { IsTrue told → OnOk result (ChangesScratch (Synced (scratch_bytes (contents self.old).scratch)) (contents self.old) (contents self.new)) }
         ensures err { IsTrue told → OnErr result (LoosensScratch (contents self.old) (contents self.new)) }
+        ensures spared { IsTrue told → IsTrue spares → OnErr result (contents self.new ≡ contents self.old) }
         ensures tally { Tallies told FolderCall.SyncScratch (is_err result) (tally self.old) (tally self.new) }
         ensures room { room self.new ≡ room self.old };
 

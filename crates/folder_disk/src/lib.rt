@@ -6,6 +6,7 @@
 mod call;
 mod fault_plan;
 mod folder;
+mod fuse_folder;
 mod main_file;
 mod main_read;
 mod mains;
@@ -17,6 +18,7 @@ mod tests;
 
 pub use call::{CallCounts, FolderCall, Planned};
 pub use folder::Folder;
+pub use fuse_folder::FuseFolder;
 pub use main_read::{MainRead, ReadMainError};
 pub use mem_folder::MemFolder;
 pub use std_folder::StdFolder;

@@ -1,8 +1,9 @@
-ghost use Rattle.std.specs.Prelude.{◌≡◌, ◌≤◌, ◌+◌, ◌-◌, ◌↔◌, ◌∷◌, [], IsTrue, OnOk, OnErr, Some, true, vec_len};
+ghost use Rattle.std.specs.Prelude.{◌≡◌, ◌≤◌, ◌+◌, ◌-◌, ◌↔◌, ◌∷◌, [], ◌^◌, IsTrue, OnOk, OnErr, Some, true, length, min, vec_len};
 ghost use Rattle.std.specs.Vec.{vec_capacity};
 ghost use Rattle.folder_disk.specs.Contents.{Images, main_alone};
 ghost use Rattle.folder_disk.specs.MainRead.{main_of};
 ghost use Rattle.folder_disk.specs.Mains.{MainsSeen, only_main, kept_of, kept_by_move, first_of, first_bound, once_replaced};
+ghost use Rattle.folder_disk.specs.Stops.{IsTame, MayBeLeft, image, images_of};
 
 use crate::MainRead;
 use std::alloc::{AllocError, Global};
@@ -121,5 +122,30 @@ impl Mains {
             self.first = FirstMain::Aside(self.older.swap_remove(index));
         }
         self.older.clear();
+    }
+
+    /// How many images a stop may leave, at most 2^32 - 1.
+    #[tactic(auto, using(crate::proofs::StopLemmas::length_images))]
+    pub(crate) fn images(&self) -> u32
+        requires { IsTame self.now.kept }
+        ensures { result ≡ min (length (images_of self.now.kept)) (2 ^ 32 - 1) }
+    {
+        u32::try_from(self.older.len() + 1).unwrap_or(u32::MAX)
+    }
+
+    /// Makes this image main, as a stop may leave it, and drops the others.
+    #[tactic(auto, using(crate::proofs::StopLemmas::image_older, crate::proofs::StopLemmas::image_now, crate::proofs::StopLemmas::image_is_left))]
+    pub(crate) fn stop(&mut self, choice: u32)
+        requires { IsTame self.old.kept }
+        ensures after { self.new ≡ record (only_main (image choice (images_of self.old.kept))) { renames = self.old.renames } }
+        ensures left { MayBeLeft self.old.kept (image choice (images_of self.old.kept)) }
+    {
+        let index = choice as usize;
+        if index < self.older.len() {
+            self.main = self.older.swap_remove(index);
+        }
+        self.older.clear();
+        self.first = FirstMain::Now;
+        self.was_alone = true;
     }
 }

@@ -22,8 +22,9 @@ pub struct MemFolder {
 }
 
 impl MemFolder {
-    ghost use Rattle.std.specs.Prelude.{option_copied};
+    ghost use Rattle.std.specs.Prelude.{◌-◌, ◌^◌, min, option_copied};
     ghost use Rattle.folder_disk.specs.MemFolder.{contents_of, tally_of, fresh_contents, fresh_tally};
+    ghost use Rattle.folder_disk.specs.Stops.{IsLeftBy, IsTame, image, images_of};
 
     /// A folder at the start of a session. `main` is on the disk, and each of `failing` strikes once.
     pub fn new(
@@ -32,7 +33,7 @@ impl MemFolder {
         failing: Vec<Planned>,
     ) -> Result<MemFolder, AllocError>
         ensures contents { IfOk result (λ f. contents_of f ≡ fresh_contents (main_of main)) }
-        ensures tally { IfOk result (λ f. tally_of f ≡ fresh_tally failing.items) }
+        ensures tally { IfOk result (λ f. tally_of f ≡ fresh_tally 0 failing.items) }
     {
         Ok(MemFolder {
             alloc,
@@ -50,6 +51,28 @@ impl MemFolder {
             MainRead::Absent => None,
             MainRead::Bytes(bytes) => Some(bytes.as_slice()),
         }
+    }
+
+    /// How many images a machine stop may leave as main, at most 2^32 - 1.
+    pub fn images(&self) -> u32
+        requires { IsTame (contents_of self.now).kept }
+        ensures { result ≡ min (length (images_of (contents_of self.now).kept)) (2 ^ 32 - 1) }
+    {
+        self.mains.images()
+    }
+
+    /// A stop of the machine. It leaves as main the image with the number `choice`, where 0 is the
+    /// oldest, or the last where there are fewer, and no scratch file. From here on each of `failing`
+    /// strikes once, with call numbers from 1 on. It takes no memory.
+    pub fn stop(&mut self, choice: u32, failing: Vec<Planned>)
+        requires { IsTame (contents_of self.old).kept }
+        ensures contents { contents_of self.new ≡ fresh_contents (image choice (images_of (contents_of self.old).kept)) }
+        ensures left { IsLeftBy (contents_of self.old) (contents_of self.new) }
+        ensures tally { tally_of self.new ≡ fresh_tally (tally_of self.old).count failing.items }
+    {
+        self.mains.stop(choice);
+        self.scratch.lose();
+        self.plan.restart(failing);
     }
 }
 
@@ -80,6 +103,8 @@ impl Folder for MemFolder {
     ghost contents = { contents_of };
 
     ghost tally = { tally_of };
+
+    ghost spares = { true };
 
     ghost room = { room_of };
 

@@ -93,6 +93,13 @@ impl MemScratch {
         self.state = ScratchState::OnDisk;
     }
 
+    /// Loses the file, and keeps its memory.
+    pub(crate) fn lose(&mut self)
+        ensures { self.new ≡ record self.old { file = Gone } }
+    {
+        self.state = ScratchState::Missing;
+    }
+
     pub(crate) fn is_on_disk(&self) -> bool
         ensures { result ≡ is_on_disk self.now.file }
     {

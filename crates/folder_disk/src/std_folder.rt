@@ -111,6 +111,8 @@ impl<R: Files + Drop> Folder for StdFolder<R> {
 
     ghost tally = { λ count. record { count = count; most = None; due = record { planned = []; made = no_calls; fuses = [] } } };
 
+    ghost spares = { false };
+
     ghost room = { λ _. record { creates = 1; bytes = 2 ^ 64; renames = 1 } };
 
     fn faults(&self) -> u64 {

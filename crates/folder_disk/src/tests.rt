@@ -1,5 +1,11 @@
+ghost use Rattle.std.specs.Prelude.{IsTrue, IfOk, OnOk};
+ghost use Rattle.folder_disk.specs.MemFolder.{contents_of};
+ghost use Rattle.folder_disk.specs.Stops.{IsTame};
+
 use crate::std_folder::Paths;
-use crate::{Folder, FolderCall, MainRead, MemFolder, Planned, ReadMainError, StdFolder};
+use crate::{
+    Folder, FolderCall, FuseFolder, MainRead, MemFolder, Planned, ReadMainError, StdFolder,
+};
 use std::alloc::{AllocError, Global};
 use std::test::Fail;
 use std::{fs, io};
@@ -11,8 +17,11 @@ const REAL: Paths = Paths {
     scratch: "folder_disk_test/settings.preferences_pb.tmp",
 };
 
-// One whole write in two pieces, as the layers above make it over any folder.
-fn write<F: Folder>(folder: &mut F, alloc: Global, bytes: &[u8]) -> Result<(), Failed> {
+// Moves bytes over main in two pieces, as the layers above do it over any folder, all but the sync of
+// the names.
+fn move_over<F: Folder>(folder: &mut F, alloc: Global, bytes: &[u8]) -> Result<(), Failed>
+    ensures { IsTrue F.told → IsTame (F.contents folder.old).kept → OnOk result (IsTame (F.contents folder.new).kept) }
+{
     if folder.make_room(alloc, bytes.len() as u64).is_err() {
         return Err(Failed);
     }
@@ -21,7 +30,12 @@ fn write<F: Folder>(folder: &mut F, alloc: Global, bytes: &[u8]) -> Result<(), F
     folder.append_scratch(front)?;
     folder.append_scratch(back)?;
     folder.sync_scratch()?;
-    folder.rename_scratch()?;
+    folder.rename_scratch()
+}
+
+// One whole write.
+fn write<F: Folder>(folder: &mut F, alloc: Global, bytes: &[u8]) -> Result<(), Failed> {
+    move_over(folder, alloc, bytes)?;
     folder.sync_folder()
 }
 
@@ -49,10 +63,17 @@ fn is_absent<F: Folder>(folder: &mut F, alloc: Global) -> bool {
     }
 }
 
-// A folder with the main file "old", where the call with this number fails.
-fn failing(alloc: Global, call: FolderCall, number: u32) -> Result<MemFolder, AllocError> {
+// A folder with the main file "old".
+fn with_old(alloc: Global, failing: Vec<Planned>) -> Result<MemFolder, AllocError>
+    ensures { IfOk result (λ folder. IsTame (contents_of folder).kept) }
+{
     let main = MainRead::Bytes(FileBytes::new(b"old".to_vec(alloc)?));
-    MemFolder::new(alloc, main, vec![in alloc; Planned { call, number }]?)
+    MemFolder::new(alloc, main, failing)
+}
+
+// The same, where the call with this number fails.
+fn failing(alloc: Global, call: FolderCall, number: u32) -> Result<MemFolder, AllocError> {
+    with_old(alloc, vec![in alloc; Planned { call, number }]?)
 }
 
 // Whether this call strikes the first of two writes alone, which leaves `main`.
@@ -76,6 +97,98 @@ fn each_planned_failure_strikes_once(rt: HostRuntime) -> Result<(), Fail> {
     ];
     for (call, main) in rows {
         assert!(rt; strikes_once(rt.alloc(), call, main)?, "{call:?}");
+    }
+    Ok(())
+}
+
+// Failures that are planned out of order, and two of them twice.
+fn out_of_order(alloc: Global) -> Result<Vec<Planned>, AllocError> {
+    let (read, sync) = (FolderCall::ReadMain, FolderCall::SyncFolder);
+    let mut planned = Vec::new(alloc);
+    for (call, number) in [
+        (read, 5),
+        (sync, 3),
+        (read, 2),
+        (read, 5),
+        (sync, 1),
+        (sync, 3),
+    ] {
+        planned.push(Planned { call, number })?;
+    }
+    Ok(planned)
+}
+
+// Whether a read fails, and a sync of the names behind it.
+fn which_fail<F: Folder>(folder: &mut F, alloc: Global) -> (bool, bool) {
+    let is_read_failed = read_error(folder, alloc, 3) == Some(ReadMainError::Failed);
+    (is_read_failed, folder.sync_folder().is_err())
+}
+
+#[test]
+fn each_of_many_failures_strikes_where_it_is_planned(rt: HostRuntime) -> Result<(), Fail> {
+    let mut folder = with_old(rt.alloc(), out_of_order(rt.alloc())?)?;
+    let rows = [
+        (false, true),
+        (true, false),
+        (false, true),
+        (false, false),
+        (true, false),
+        (false, false),
+    ];
+    for wanted in rows {
+        assert_eq!(rt; which_fail(&mut folder, rt.alloc()), wanted);
+    }
+    assert_eq!(rt; folder.faults(), 4);
+    Ok(())
+}
+
+// How a write ends behind a fuse that lets so many calls pass, the faults after it, and whether main is
+// `main` then.
+fn behind_fuse(alloc: Global, calls: u64, main: &[u8]) -> Result<(bool, u64, bool), AllocError> {
+    let mut folder = FuseFolder::new(with_old(alloc, Vec::new(alloc))?, Some(calls));
+    let (is_written, faults) = after_write(&mut folder, alloc, b"new");
+    Ok((is_written, faults, folder.inner().main() == Some(main)))
+}
+
+#[test]
+fn a_fuse_lets_so_many_calls_pass(rt: HostRuntime) -> Result<(), Fail> {
+    // The fifth call of six moves the scratch file over main.
+    for calls in 0..8u64 {
+        let main = if calls < 5 { b"old" } else { b"new" };
+        let wanted = (calls >= 6, u64::from(calls < 6), true);
+        assert_eq!(rt; behind_fuse(rt.alloc(), calls, main)?, wanted, "{calls}");
+    }
+    Ok(())
+}
+
+#[test]
+fn a_fuse_stands_behind_a_fuse(rt: HostRuntime) -> Result<(), Fail> {
+    let within = FuseFolder::new(with_old(rt.alloc(), Vec::new(rt.alloc()))?, Some(3));
+    let mut folder = FuseFolder::new(within, Some(8));
+    assert_eq!(rt; after_write(&mut folder, rt.alloc(), b"one"), (false, 1));
+    folder.inner().set_fuse(None);
+    assert_eq!(rt; after_write(&mut folder, rt.alloc(), b"two"), (false, 2));
+    folder.set_fuse(None);
+    assert_eq!(rt; after_write(&mut folder, rt.alloc(), b"three"), (true, 2));
+    Ok(())
+}
+
+#[test]
+fn a_stop_leaves_the_image_that_is_chosen(rt: HostRuntime) -> Result<(), Fail> {
+    for (choice, main) in [(0, b"old"), (1, b"new"), (2, b"new")] {
+        let mut folder = with_old(rt.alloc(), Vec::new(rt.alloc()))?;
+        move_over(&mut folder, rt.alloc(), b"new")?;
+        assert_eq!(rt; folder.images(), 2);
+        let failing = vec![in rt.alloc();
+            Planned {
+                call: FolderCall::Create,
+                number: 1
+            },
+        ]?;
+        folder.stop(choice, failing);
+        assert!(rt; folder.main() == Some(main), "{choice}");
+        assert_eq!(rt; folder.images(), 1);
+        assert_eq!(rt; after_write(&mut folder, rt.alloc(), b"next"), (false, 1));
     }
     Ok(())
 }
@@ -133,5 +246,5 @@ fn crosses_threads<T: Send>() {}
 
 #[test]
 fn folders_cross_threads() {
-    crosses_threads::<(MemFolder, StdFolder<HostRuntime>)>();
+    crosses_threads::<(FuseFolder<MemFolder>, StdFolder<HostRuntime>)>();
 }
