@@ -53,7 +53,7 @@ module _ {C F V T : Type 0} (c : codec_trait.Ghosts C V) (t : transform_trait.Gh
       }
 
   serves : Serves ReadMain false (world_seen f old) (world_seen f new)
-  serves = record { folder = λ told. contents told ∙ read.contents told; tally = rw tally read.tally }
+  serves = record { folder = λ told. contents told ∙ read.contents told; spared = λ told spares. tt; tally = rw tally read.tally }
 
   -- the edit makes another value of the one that was read
   makes_other : (value : V) → MakesOther (rules_seen c t f old) (c.is_value old.codec) old.store given.value.value edit value → Makes (rules_seen c t f old) old.store (world_seen f old) origin.call edit value

@@ -35,14 +35,14 @@ module _ {C F V T : Type 0} (c : codec_trait.Ghosts C V) (t : transform_trait.Gh
   pub read_stops : (count : ℕ) (loaded : Loaded V) (error : ReadError) → Stops loaded error → LoadRow origin.call count loaded old mid
       → (IsTrue f.told → IfSome (base_of loaded) (λ base. ReadsAs (c.reads old.codec) (c.default_of old.codec) old.store.limits.file (f.contents old.folder).main base)) → Asks f.told f.tally loaded old.folder mid.folder → ReadFails c t f origin error old new
   read_stops count Corrupt error is adds reads asks =
-      λ purpose ask. rw is (ends_behind c t f origin (Reading purpose ask) old new mid (unreadable reads handler) adds (record { folder = contents; tally = asks }) frees same)
+      λ purpose ask. rw is (ends_behind c t f origin (Reading purpose ask) old new mid (unreadable reads handler) adds (record { folder = contents; spared = λ told spares. tt; tally = asks }) frees same)
   read_stops count (TooLong len) error is adds reads asks =
-      λ purpose ask. rw is (ends_behind c t f origin (Reading purpose ask) old new mid (too_long reads) adds (record { folder = contents; tally = asks }) frees same)
+      λ purpose ask. rw is (ends_behind c t f origin (Reading purpose ask) old new mid (too_long reads) adds (record { folder = contents; spared = λ told spares. tt; tally = asks }) frees same)
   read_stops count NoMemory error is adds reads asks =
       λ purpose ask.
       elim asks [
         | inl untouched ↦ rw is (ends c t f origin (Reading purpose ask) old new read_lacks_memory (then_frees adds frees) (same ∙ untouched))
-        | inr asked ↦ rw is (ends_behind c t f origin (Reading purpose ask) old new mid lacks_memory adds (record { folder = contents; tally = asked }) frees same)
+        | inr asked ↦ rw is (ends_behind c t f origin (Reading purpose ask) old new mid lacks_memory adds (record { folder = contents; spared = λ told spares. tt; tally = asked }) frees same)
       ]
   read_stops count other error is adds reads asks = absurd is
 
@@ -50,7 +50,7 @@ module _ {C F V T : Type 0} (c : codec_trait.Ghosts C V) (t : transform_trait.Gh
 module _ {C F V T : Type 0} (c : codec_trait.Ghosts C V) (t : transform_trait.Ghosts T V) (f : folder_trait.Ghosts F) (origin : Origin) (given : Given V) (old mid new : ShelfSeen C F V T) (read : HasRead c t f origin given old mid)
     (frees : Frees origin.call [] mid new) (same : new.folder ≡ mid.folder) where
   ends_by : (purpose : Purpose) (reply : Reply V) → Line c t f origin (Reading purpose Read) old (asking ReadMain (does (Ends reply))) → Steps c t f origin (Reading purpose Read) old (Ended reply) Gone new
-  ends_by purpose reply line = ends_behind c t f origin (Reading purpose Read) old new mid line read.same (record { folder = read.contents; tally = read.tally }) frees same
+  ends_by purpose reply line = ends_behind c t f origin (Reading purpose Read) old new mid line read.same (record { folder = read.contents; spared = λ told spares. tt; tally = read.tally }) frees same
 
   -- it gives the value
   pub gives_value : EndsRead c t f origin (Gave given.edition given.value.value) old new

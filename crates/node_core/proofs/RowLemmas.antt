@@ -97,7 +97,7 @@ module _ {C F V T : Type 0} (c : codec_trait.Ghosts C V) (t : transform_trait.Gh
     pub ends_behind : (mid : ShelfSeen C F V T) {reply : Reply V} {kinds : List (KindSeen V T)} {request : Request} {room : ℕ}
         → LineOf (Ends reply) kinds (Served request) → Leaves origin.call kinds old.owner room old mid → Serves request false (world_seen f old) (world_seen f mid)
         → Frees origin.call [] mid new → new.folder ≡ mid.folder → Steps c t f origin at old (Ended reply) Gone new
-    ends_behind mid line leaves serves frees same = ends line (then_frees leaves frees) (record { folder = λ told. rw same (serves.folder told); tally = rw same serves.tally })
+    ends_behind mid line leaves serves frees same = ends line (then_frees leaves frees) (record { folder = λ told. rw same (serves.folder told); spared = λ told spares. tt; tally = rw same serves.tally })
 
     -- or the folder fails, and it ends
     pub faults : (request : Request) (error : ℕ → UpdateError) (place : ℕ) → Line (fails request (error (length old.list + 1))) → Faults origin.call (f.tally new.folder).count place old new
@@ -108,6 +108,6 @@ module _ {C F V T : Type 0} (c : codec_trait.Ghosts C V) (t : transform_trait.Gh
 -- where a write meets a folder that fails
 pub write_faults : {C F V T : Type 0} (c : codec_trait.Ghosts C V) (t : transform_trait.Ghosts T V) (f : folder_trait.Ghosts F) (origin : Origin) (stage : Stage) (plan : Plan V T) (place : ℕ) (old new : ShelfSeen C F V T)
     → Faults origin.call (f.tally new.folder).count place old new → (IsTrue f.told → request.Leaves (request_of stage plan) true (f.contents old.folder) (f.contents new.folder))
-    → Tallies f.told (call_of (request_of stage plan)) true (f.tally old.folder) (f.tally new.folder) → Steps c t f origin (Writing stage plan) old (Ended (Failed (StorageFault place))) Gone new
-write_faults c t f origin stage plan place old new failed folder tally =
-    faults c t f origin (Writing stage plan) old new (request_of stage plan) StorageFault place write_fails failed (record { folder = folder; tally = tally })
+    → (IsTrue f.told → IsTrue f.spares → f.contents new.folder ≡ f.contents old.folder) → Tallies f.told (call_of (request_of stage plan)) true (f.tally old.folder) (f.tally new.folder) → Steps c t f origin (Writing stage plan) old (Ended (Failed (StorageFault place))) Gone new
+write_faults c t f origin stage plan place old new failed folder spared tally =
+    faults c t f origin (Writing stage plan) old new (request_of stage plan) StorageFault place write_fails failed (record { folder = folder; spared = spared; tally = tally })

@@ -90,6 +90,7 @@ module _ {C F V T : Type 0} (f : folder_trait.Ghosts F) where
   world_seen s =
       record {
         told = f.told;
+        spares = f.spares;
         folder = f.contents s.folder;
         sections = [];
         owner = s.owner;

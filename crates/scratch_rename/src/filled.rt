@@ -65,6 +65,7 @@ impl Filled {
         ensures plan { MatchResult result (λ filled. filled ≡ filled_more self) (λ filled. filled ≡ self) }
         ensures ok { IsTrue F.told → OnOk result (ChangesScratch (Unsynced (self.written ++ next_piece self)) (F.contents folder.old) (F.contents folder.new)) }
         ensures err { IsTrue F.told → OnErr result (LoosensScratch (F.contents folder.old) (F.contents folder.new)) }
+        ensures spared { IsTrue F.told → IsTrue F.spares → OnErr result (F.contents folder.new ≡ F.contents folder.old) }
         ensures tally { Tallies F.told FolderCall.Append (is_err result) (F.tally folder.old) (F.tally folder.new) }
         ensures room { Uses 0 (length (next_piece self)) 0 (F.room folder.old) (F.room folder.new) }
     {
@@ -87,6 +88,7 @@ impl Filled {
         ensures plan { MatchResult result (λ synced. synced ≡ self.written) (λ filled. filled ≡ self) }
         ensures ok { IsTrue F.told → OnOk result (ChangesScratch (model.Synced self.written) (F.contents folder.old) (F.contents folder.new)) }
         ensures err { IsTrue F.told → OnErr result (LoosensScratch (F.contents folder.old) (F.contents folder.new)) }
+        ensures spared { IsTrue F.told → IsTrue F.spares → OnErr result (F.contents folder.new ≡ F.contents folder.old) }
         ensures tally { Tallies F.told FolderCall.SyncScratch (is_err result) (F.tally folder.old) (F.tally folder.new) }
         ensures room { F.room folder.new ≡ F.room folder.old }
     {

@@ -36,6 +36,7 @@ impl Fresh {
         ensures plan { MatchResult result (λ filled. filled ≡ record { written = []; rest = self }) (λ fresh. fresh ≡ self) }
         ensures ok { IsTrue F.told → OnOk result (ChangesScratch (Unsynced []) (F.contents folder.old) (F.contents folder.new)) }
         ensures err { IsTrue F.told → OnErr result (LoosensScratch (F.contents folder.old) (F.contents folder.new)) }
+        ensures spared { IsTrue F.told → IsTrue F.spares → OnErr result (F.contents folder.new ≡ F.contents folder.old) }
         ensures tally { Tallies F.told FolderCall.Create (is_err result) (F.tally folder.old) (F.tally folder.new) }
         ensures room { Uses 1 0 0 (F.room folder.old) (F.room folder.new) }
     {

@@ -9,7 +9,6 @@ use Rattle.hist_journal.specs.Kinds.{is_call, is_raise}
 use Rattle.shelf.specs.Entries.{is_any, is_own}
 use Rattle.shelf.specs.LastRaise.{ends_in_raise}
 use Rattle.shelf.specs.Meanwhile.{NoneOf}
-use Rattle.shelf.proofs.Bools.{never}
 use Rattle.shelf.proofs.SameCalls.{itself}
 
 not_own : (own : Bool) → (own && true) ≡ false → own ≡ false

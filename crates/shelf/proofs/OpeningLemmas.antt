@@ -1,5 +1,5 @@
 -- What a shelf keeps when it is made, and when a node is added.
-use Rattle.std.proofs.Common.{◌≡◌, ◌∙◌, ◌≤◌, inl, inr, ⊎_elim, ℕ, Bool, true, false, IsTrue, List, [], None, refl, sym, arith, if◌then◌else◌}
+use Rattle.std.proofs.Common.{◌≡◌, ◌∙◌, inl, inr, ⊎_elim, ℕ, Bool, true, false, IsTrue, List, [], None, refl, sym, arith, if◌then◌else◌}
 use Rattle.std.proofs.Math.Logic.{∥∥₁_map}
 use Rattle.folder_disk.specs.Contents.{Contents, Starts}
 use Rattle.folder_disk.specs.Tally.{Tally}

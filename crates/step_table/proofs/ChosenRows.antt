@@ -49,7 +49,7 @@ module _ {V T : Type 0} where
   is_served other = true
 
   -- what holds of either choice holds of the one that is made
-  split : (P : Effect V T → Type 0) (b : Bool) (x y : Effect V T) → (b ≡ true → P x) → (b ≡ false → P y) → P (if b then x else y)
+  pub split : (P : Effect V T → Type 0) (b : Bool) (x y : Effect V T) → (b ≡ true → P x) → (b ≡ false → P y) → P (if b then x else y)
   split P true x y so unlike = so refl
   split P false x y so unlike = unlike refl
 

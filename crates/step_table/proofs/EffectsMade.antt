@@ -1,5 +1,5 @@
 -- What an effect makes of world and call, computed, where the folder goes well or fails as that is due.
-use Rattle.std.proofs.Common.{◌≡◌, ◌-◌, ◌^◌, nat_lt, Bool, true, false, ◌&&◌, not, ◌++◌, [], refl}
+use Rattle.std.proofs.Common.{◌≡◌, ◌^◌, nat_lt, Bool, true, false, ◌&&◌, not, ◌++◌, [], refl}
 use Rattle.folder_disk.specs.Contents.{Contents, Unsynced, Synced, Loosened, scratch_bytes, renamed, folder_synced}
 use Rattle.folder_disk.specs.Contents as folder
 use Rattle.folder_disk.specs.Due as plan
@@ -61,8 +61,8 @@ module _ {V T : Type 0} (w : World V T) (c : Call V T) where
 
   abbrev pub is_as_due : FolderUse → Bool
   is_as_due Unused = true
-  is_as_due (Served request) = not (plan.fails (call_of request) w.tally.due) && nat_lt w.tally.count (2 ^ 64 - 1)
-  is_as_due (Faulted request) = plan.fails (call_of request) w.tally.due && nat_lt w.tally.count (2 ^ 64 - 1)
+  is_as_due (Served request) = not (plan.fails (call_of request) w.tally.due) && nat_lt w.tally.count (2 ^ 64)
+  is_as_due (Faulted request) = plan.fails (call_of request) w.tally.due && nat_lt w.tally.count (2 ^ 64)
 
   pub comes_by : (used : FolderUse) (e : Effect V T) → is_as_due used ≡ true
       → Comes (turned_by (record e { folder = used })) (record e { folder = used }) (gave_by e.next)
@@ -70,14 +70,14 @@ module _ {V T : Type 0} (w : World V T) (c : Call V T) where
   comes_by (Served request) e is =
       record {
         given = refl;
-        used = record { folder = λ told. leaves_well request w.folder; tally = well_so w.told (call_of request) w.tally is };
+        used = record { folder = λ told. leaves_well request w.folder; spared = λ told spares. tt; tally = well_so w.told (call_of request) w.tally is };
         world = refl;
         call = refl;
       }
   comes_by (Faulted request) e is =
       record {
         given = refl;
-        used = record { folder = λ told. leaves_ill request w.folder; tally = failed_so w.told (call_of request) w.tally is };
+        used = record { folder = λ told. leaves_ill request w.folder; spared = λ told spares. refl; tally = failed_so w.told (call_of request) w.tally is };
         world = refl;
         call = refl;
       }

@@ -49,7 +49,7 @@ module _ {V T : Type 0} where
   lasts other gave is memory = refl
 
   -- what the step asks the folder for
-  abbrev asked_at : At V T → Option Request
+  abbrev pub asked_at : At V T → Option Request
   asked_at (Reading purpose ask) = Some ReadMain
   asked_at (Writing stage plan) = Some (request_of stage plan)
   asked_at (SyncingFolder ending) = Some SyncFolder

@@ -51,12 +51,12 @@ abbrev pub tally : ℕ → List Planned → CallCounts → Tally
 tally count planned made = record { count = count; most = None; due = record { planned = planned; made = made; fuses = [] } }
 
 abbrev pub at_start : Store ℕ (Unit {0}) → World ℕ ExampleEdit
-at_start s = record { told = true; folder = holding s.main s.main; sections = s.sections; owner = None; history = []; deaths = s.deaths; version = 0; tally = tally 0 [] no_calls }
+at_start s = record { told = true; spares = true; folder = holding s.main s.main; sections = s.sections; owner = None; history = []; deaths = s.deaths; version = 0; tally = tally 0 [] no_calls }
 
 -- the lock is free, no death is left, and these are main, the history, the version and the tally
 abbrev pub at_end : Store ℕ (Unit {0}) → List ℕ → List Entry → ℕ → Tally → World ℕ ExampleEdit
 at_end s main history version counted =
-    record { told = true; folder = holding s.main (Some main); sections = s.sections; owner = None; history = history; deaths = []; version = version; tally = counted }
+    record { told = true; spares = true; folder = holding s.main (Some main); sections = s.sections; owner = None; history = history; deaths = []; version = version; tally = counted }
 
 abbrev pub times : ℕ → List (Did ℕ) → List (Did ℕ)
 times zero turns = []

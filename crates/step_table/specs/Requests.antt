@@ -1,5 +1,6 @@
 -- What a turn asks of the folder, and what that leaves of it.
 use Rattle.std.specs.Prelude.{◌≡◌, Bool, true, false, ℕ, List, [], ◌++◌, IsTrue}
+use Rattle.std.specs.Bool.{OnTrue}
 use Rattle.folder_disk.specs.Contents.{Contents, Unsynced, Synced, scratch_bytes, ChangesScratch, LoosensScratch, renamed, folder_synced}
 use Rattle.folder_disk.specs.Tally.{Tallies}
 use Rattle.folder_disk.specs.declared.call.FolderCall.{FolderCall}
@@ -36,7 +37,8 @@ Leaves Rename true old new = new ≡ old
 Leaves SyncFolder false old new = new ≡ folder_synced old
 Leaves SyncFolder true old new = new ≡ old
 
--- the request was made once, and its call went well or failed
+-- the request was made once, and its call went well or failed; a folder that spares what it holds is as it was where it failed
 pub record Serves (request : Request) (failed : Bool) {V T : Type 0} (old new : World V T) : Type 0 where
   pub folder : IsTrue old.told → Leaves request failed old.folder new.folder
+  pub spared : IsTrue old.told → IsTrue old.spares → OnTrue failed (new.folder ≡ old.folder)
   pub tally : Tallies old.told (call_of request) failed old.tally new.tally

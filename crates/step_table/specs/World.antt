@@ -11,9 +11,10 @@ use Rattle.shelf.specs.declared.store.SectionSeen.{SectionSeen}
 use Rattle.shelf.specs.declared.store.Store.{Store}
 use Rattle.step_table.specs.Calls.{Call, step_at}
 
--- the version is that of the version word, `tally` the folder's count of faults and of its calls by kind, and `deaths` those that are not used up; `told` says whether the folder tells what it holds
+-- the version is that of the version word, `tally` the folder's count of faults and of its calls by kind, and `deaths` those that are not used up; `told` says whether the folder tells what it holds, and `spares` whether its calls leave all of that where they fail
 pub record World (V T : Type 0) : Type 0 where
   pub told : Bool
+  pub spares : Bool
   pub folder : Contents
   -- the old settings; no step changes them yet
   pub sections : List SectionSeen

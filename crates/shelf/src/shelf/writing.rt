@@ -51,6 +51,7 @@ impl<P: Parts> Shelf<P> {
         ensures err { IfErr result (λ at. Faults call (P.F.tally self.new.folder).count at (shelf_seen self.old) (shelf_seen self.new)) }
         ensures created { IsTrue P.F.told → OnOk result (ChangesScratch (Unsynced []) (P.F.contents self.old.folder) (P.F.contents self.new.folder)) }
         ensures failed { IsTrue P.F.told → OnErr result (LoosensScratch (P.F.contents self.old.folder) (P.F.contents self.new.folder)) }
+        ensures spared { IsTrue P.F.told → IsTrue P.F.spares → OnErr result (P.F.contents self.new.folder ≡ P.F.contents self.old.folder) }
         ensures tally { Tallies P.F.told FolderCall.Create (is_err result) (P.F.tally self.old.folder) (P.F.tally self.new.folder) }
         ensures room { Uses 1 0 0 (P.F.room self.old.folder) (P.F.room self.new.folder) }
     {
@@ -72,6 +73,7 @@ impl<P: Parts> Shelf<P> {
         ensures err { IfErr result (λ at. Faults call (P.F.tally self.new.folder).count at (shelf_seen self.old) (shelf_seen self.new)) }
         ensures appended { IsTrue P.F.told → OnOk result (ChangesScratch (Unsynced (plan.written ++ next_piece plan)) (P.F.contents self.old.folder) (P.F.contents self.new.folder)) }
         ensures failed { IsTrue P.F.told → OnErr result (LoosensScratch (P.F.contents self.old.folder) (P.F.contents self.new.folder)) }
+        ensures spared { IsTrue P.F.told → IsTrue P.F.spares → OnErr result (P.F.contents self.new.folder ≡ P.F.contents self.old.folder) }
         ensures tally { Tallies P.F.told FolderCall.Append (is_err result) (P.F.tally self.old.folder) (P.F.tally self.new.folder) }
         ensures room { Uses 0 (length (next_piece plan)) 0 (P.F.room self.old.folder) (P.F.room self.new.folder) }
     {
@@ -93,6 +95,7 @@ impl<P: Parts> Shelf<P> {
         ensures err { IfErr result (λ at. Faults call (P.F.tally self.new.folder).count at (shelf_seen self.old) (shelf_seen self.new)) }
         ensures synced { IsTrue P.F.told → OnOk result (ChangesScratch (model.Synced plan.written) (P.F.contents self.old.folder) (P.F.contents self.new.folder)) }
         ensures failed { IsTrue P.F.told → OnErr result (LoosensScratch (P.F.contents self.old.folder) (P.F.contents self.new.folder)) }
+        ensures spared { IsTrue P.F.told → IsTrue P.F.spares → OnErr result (P.F.contents self.new.folder ≡ P.F.contents self.old.folder) }
         ensures tally { Tallies P.F.told FolderCall.SyncScratch (is_err result) (P.F.tally self.old.folder) (P.F.tally self.new.folder) }
         ensures room { P.F.room self.new.folder ≡ P.F.room self.old.folder }
     {

@@ -15,7 +15,7 @@ pub returns-in-Faulted-clause-err : goal.returns-in-Faulted-clause-err
 returns-in-Faulted-clause-err g c =
     λ purpose ask.
     let e = c.in-Faulted.ensures in
-    faults g.P.C.Codec g.P.T.Transform g.P.F.Folder c.args.origin (Reading purpose ask) _ _ ReadMain StorageFault _ read_fails e.turn (record { folder = e.contents; tally = e.tally })
+    faults g.P.C.Codec g.P.T.Transform g.P.F.Folder c.args.origin (Reading purpose ask) _ _ ReadMain StorageFault _ read_fails e.turn (record { folder = e.contents; spared = λ told spares. e.contents told; tally = e.tally })
 
 pub returns-in-Faulted-clause-raises : goal.returns-in-Faulted-clause-raises
 returns-in-Faulted-clause-raises g c = version_left c.in-Faulted.ensures.turn.leaves

@@ -14,7 +14,7 @@ pub returns-in-Ok-clause-steps : goal.returns-in-Ok-clause-steps
 returns-in-Ok-clause-steps g c =
     λ ask.
     let read = c.in-Ok.ensures.ok in
-    goes_on g.P.C.Codec g.P.T.Transform g.P.F.Folder c.args.origin _ _ _ (loads read.reads) read.same (record { folder = read.contents; tally = read.tally })
+    goes_on g.P.C.Codec g.P.T.Transform g.P.F.Folder c.args.origin _ _ _ (loads read.reads) read.same (record { folder = read.contents; spared = λ told spares. tt; tally = read.tally })
     (record { entries = room_left 0 c.requires.ready.room read.same.room (omega arith); room = tt; may = λ told. tt })
 
 pub returns-in-Err-clause-steps : goal.returns-in-Err-clause-steps

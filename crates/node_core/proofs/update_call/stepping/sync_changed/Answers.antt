@@ -31,7 +31,7 @@ pub returns-in-Ok-clause-steps : goal.returns-in-Ok-clause-steps
 returns-in-Ok-clause-steps g c =
     let e = c.in-Ok.ensures in
     rw e.edition (ends_behind g.P.C.Codec g.P.T.Transform g.P.F.Folder c.args.origin _ _ _ (shelf_seen c.sync_folder.new.self) acknowledges e.ok
-    (record { folder = e.synced; tally = e.tally })
+    (record { folder = e.synced; spared = λ told spares. tt; tally = e.tally })
     c.free.ensures.turn c.free.ensures.folder)
 
 pub returns-in-Ok-clause-raises : goal.returns-in-Ok-clause-raises
@@ -40,7 +40,7 @@ returns-in-Ok-clause-raises g c = ap raises_of c.free.ensures.turn.list ∙ vers
 pub returns-in-Err-clause-steps : goal.returns-in-Err-clause-steps
 returns-in-Err-clause-steps g c =
     let e = c.in-Err.ensures in
-    faults g.P.C.Codec g.P.T.Transform g.P.F.Folder c.args.origin _ _ _ SyncFolder (λ fault. NotDurable c.args.place) _ sync_fails e.err (record { folder = e.failed; tally = e.tally })
+    faults g.P.C.Codec g.P.T.Transform g.P.F.Folder c.args.origin _ _ _ SyncFolder (λ fault. NotDurable c.args.place) _ sync_fails e.err (record { folder = e.failed; spared = λ told spares. e.failed told; tally = e.tally })
 
 pub returns-in-Err-clause-raises : goal.returns-in-Err-clause-raises
 returns-in-Err-clause-raises g c = version_left c.in-Err.ensures.err.leaves

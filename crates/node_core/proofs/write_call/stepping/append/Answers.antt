@@ -19,11 +19,11 @@ returns-in-Ok-clause-steps g c =
     let e = c.in-Ok.ensures in
     let ready = c.requires.ready in
     rw (c.filling.ensures, e.plan) (goes_on g.P.C.Codec g.P.T.Transform g.P.F.Folder c.args.origin _ _ _ appends e.ok
-    (record { folder = λ told. of_scratch (λ bytes. Unsynced (bytes ++ next_piece c.args.plan)) _ _ _ (ready.knows.contents told).scratch (e.appended told); tally = e.tally })
+    (record { folder = λ told. of_scratch (λ bytes. Unsynced (bytes ++ next_piece c.args.plan)) _ _ _ (ready.knows.contents told).scratch (e.appended told); spared = λ told spares. tt; tally = e.tally })
     (equipped_append g.P.C.Codec g.P.T.Transform g.P.F.Folder c.args.origin.call _ _ _ e.ok e.room ready.equipped))
 
 pub returns-in-Err-clause-steps : goal.returns-in-Err-clause-steps
-returns-in-Err-clause-steps g c = let e = c.in-Err.ensures in write_faults g.P.C.Codec g.P.T.Transform g.P.F.Folder c.args.origin _ _ _ _ _ e.err e.failed e.tally
+returns-in-Err-clause-steps g c = let e = c.in-Err.ensures in write_faults g.P.C.Codec g.P.T.Transform g.P.F.Folder c.args.origin _ _ _ _ _ e.err e.failed e.spared e.tally
 
 pub returns-in-Err-clause-raises : goal.returns-in-Err-clause-raises
 returns-in-Err-clause-raises g c = version_left c.in-Err.ensures.err.leaves

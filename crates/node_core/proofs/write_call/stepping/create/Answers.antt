@@ -11,11 +11,11 @@ create-requires-clause-lawful g c = λ told. fault_fits _ _ _ _ (early_goes_on _
 pub returns-in-Ok-clause-steps : goal.returns-in-Ok-clause-steps
 returns-in-Ok-clause-steps g c =
     let e = c.in-Ok.ensures in
-    rw (c.filling.ensures, e.plan) (goes_on g.P.C.Codec g.P.T.Transform g.P.F.Folder c.args.origin _ _ _ creates e.ok (record { folder = e.created; tally = e.tally })
+    rw (c.filling.ensures, e.plan) (goes_on g.P.C.Codec g.P.T.Transform g.P.F.Folder c.args.origin _ _ _ creates e.ok (record { folder = e.created; spared = λ told spares. tt; tally = e.tally })
     (equipped_create g.P.C.Codec g.P.T.Transform g.P.F.Folder c.args.origin.call _ _ _ e.ok e.room c.requires.ready.equipped))
 
 pub returns-in-Err-clause-steps : goal.returns-in-Err-clause-steps
-returns-in-Err-clause-steps g c = let e = c.in-Err.ensures in write_faults g.P.C.Codec g.P.T.Transform g.P.F.Folder c.args.origin _ _ _ _ _ e.err e.failed e.tally
+returns-in-Err-clause-steps g c = let e = c.in-Err.ensures in write_faults g.P.C.Codec g.P.T.Transform g.P.F.Folder c.args.origin _ _ _ _ _ e.err e.failed e.spared e.tally
 
 pub returns-in-Err-clause-raises : goal.returns-in-Err-clause-raises
 returns-in-Err-clause-raises g c = version_left c.in-Err.ensures.err.leaves

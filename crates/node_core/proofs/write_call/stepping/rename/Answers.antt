@@ -27,7 +27,7 @@ pub returns-in-Ok-clause-steps : goal.returns-in-Ok-clause-steps
 returns-in-Ok-clause-steps g c =
     let e = c.in-Ok.ensures in
     let place = c.len.ensures ∙ ap (λ (journal : JournalSeen g.row.P-C-Value.Denot g.row.P-T.Denot). length journal.list) c.journal.ensures in
-    renames_main g.P.C.Codec g.P.T.Transform g.P.F.Folder c.args.origin _ _ _ _ c.requires.ready.equipped e.ok place (record { folder = e.renamed; tally = e.tally })
+    renames_main g.P.C.Codec g.P.T.Transform g.P.F.Folder c.args.origin _ _ _ _ c.requires.ready.equipped e.ok place (record { folder = e.renamed; spared = λ told spares. tt; tally = e.tally })
 
 -- the version behind the edit is still that of the Raise
 version : (g : _) (c : goal.After-drop-renamed-inside g) → g.W.Word.number c.args.word.now ≡ raises_of c.rename.new.self.ledger.journal.list
@@ -40,7 +40,7 @@ pub returns-in-Ok-clause-number : goal.returns-in-Ok-clause-number
 returns-in-Ok-clause-number g c = c.load.ensures.number ∙ version g c
 
 pub returns-in-Err-clause-steps : goal.returns-in-Err-clause-steps
-returns-in-Err-clause-steps g c = let e = c.in-Err.ensures in write_faults g.P.C.Codec g.P.T.Transform g.P.F.Folder c.args.origin _ _ _ _ _ e.err e.failed e.tally
+returns-in-Err-clause-steps g c = let e = c.in-Err.ensures in write_faults g.P.C.Codec g.P.T.Transform g.P.F.Folder c.args.origin _ _ _ _ _ e.err e.failed (λ told spares. e.failed told) e.tally
 
 pub returns-in-Err-clause-number : goal.returns-in-Err-clause-number
 returns-in-Err-clause-number g c = c.requires.number ∙ sym (version_left c.in-Err.ensures.err.leaves)
