@@ -5,7 +5,7 @@ use Rattle.std.specs.Option.{IsSomeAnd}
 use Rattle.script_words.proofs.OneLine.{words_of}
 use Rattle.script_lang.specs.declared.parsing.draft.Draft.{Draft}
 use Rattle.script_lang.specs.declared.parsing.line.Line.{Line}
-use Rattle.script_lang.specs.declared.parsing.line.Line.TheVariants.{Nothing, File, History, Node, Client, Run}
+use Rattle.script_lang.specs.declared.parsing.line.Line.TheVariants.{Nothing, File, History, Node, Client, Fault, Fuse, Run}
 use Rattle.script_lang.specs.declared.parsing.line_word.LineWord.TheVariants as word
 use Rattle.script_lang.specs.declared.plan.mode.Mode.{Mode}
 use Rattle.script_lang.specs.declared.plan.run_line.Act.TheVariants.{Go}
@@ -49,6 +49,8 @@ module _ (draft : Draft) where
       let P : List (List ℕ) → Type 0 = λ words. IsSomeAnd (slice_get words 2) (λ (h : List ℕ). ¬ Contains draft.nodes h) in
       kept UnknownName (subst P (sym follow.row) (no_clients draft.nodes home (λ place at.
       nothing (Client name (record { 0 = place })) (record { behind = behind; home_name = home; is = refl; follow = follow; declared = at })))))
+  row_spells (keyword word.Fault behind) nothing kept = kept BadValue (λ planned follow. nothing (Fault planned) (record { behind = behind; is = refl; follow = follow }))
+  row_spells (keyword word.Fuse behind) nothing kept = kept BadValue (λ left follow. nothing (Fuse left) (record { behind = behind; is = refl; follow = follow }))
   row_spells (keyword word.Go behind) nothing kept =
       kept BadValue (λ client steps follow.
       let P : List (List ℕ) → Type 0 = λ words. IsSomeAnd (slice_get words 0) (λ (c : List ℕ). ¬ Contains draft.clients c) in
@@ -83,6 +85,8 @@ module _ (draft : Draft) (number : ℕ) (line : List ℕ) where
   line_of_row (History entries) read row has spelled = record { read = read; row = row; of_line = has; spells = spelled }
   line_of_row (Node name) read row has spelled = record { read = read; row = row; of_line = has; spells = spelled }
   line_of_row (Client name home) read row has spelled = record { read = read; row = row; of_line = has; spells = spelled }
+  line_of_row (Fault planned) read row has spelled = record { read = read; row = row; of_line = has; spells = spelled }
+  line_of_row (Fuse left) read row has spelled = record { read = read; row = row; of_line = has; spells = spelled }
   line_of_row (Run run) read row has spelled = record { read = read; row = row; of_line = has; spells = spelled }
 
   break_of_row : (fault : ScriptFault) (read : ¬ IsSkipped line) (row : Row) → HasRow line row → RowBreaks draft row fault → Breaks draft number line fault

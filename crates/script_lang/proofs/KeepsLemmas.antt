@@ -2,35 +2,33 @@
 use Rattle.std.proofs.Common.{ℕ, zero, suc, ◌≡◌, ◌+◌, ◌<◌, ◌≤◌, ◌⊎◌, ◌∙◌, List, [], ◌∷◌, ◌++◌, Option, Some, None, length, ap, sym, refl, subst, inl, inr, ⊎_elim, arith, lit≤, length-append, append-nil, append_assoc}
 use Rattle.std.specs.Prelude.{All, Contains, codes, slice_get, unwrap_or}
 use Rattle.std.specs.List.{filter_map}
-use Rattle.std.specs.List.{cons_option}
 use Rattle.std.specs.Option.{IfSome, IsSomeAnd}
 use Rattle.std.proofs.lemmas.Bool.{cases_lt}
 use Rattle.std.proofs.lemmas.List.Elements.{All-cons, All-nil, All-push, All-weaker, Contains-push_cases}
 use Rattle.std.proofs.lemmas.Option.{slice_get_within}
-use Rattle.folder_disk.specs.declared.call.Planned.{Planned}
 use Rattle.prefs_text.specs.declared.names.Names.{Names}
 use Rattle.store_traits.specs.declared.ids.ClientId.{ClientId}
 use Rattle.store_traits.specs.declared.ids.NodeId.{NodeId}
 use Rattle.script_words.specs.Names.{IsName, reserved}
 use Rattle.script_lang.specs.declared.parsing.draft.Draft.{Draft}
 use Rattle.script_lang.specs.declared.parsing.line.Line.{Line}
-use Rattle.script_lang.specs.declared.parsing.line.Line.TheVariants.{Nothing, File, History, Node, Client, Run}
+use Rattle.script_lang.specs.declared.parsing.line.Line.TheVariants.{Nothing, File, History, Node, Client, Fault, Fuse, Run}
 use Rattle.script_lang.specs.declared.parsing.line_word.LineWord.TheVariants as word
 use Rattle.script_lang.specs.declared.plan.mode.Mode.{Mode}
 use Rattle.script_lang.specs.declared.plan.run_line.Act.{Act}
 use Rattle.script_lang.specs.declared.plan.run_line.Act.TheVariants.{Update, Read, Go, Restart}
 use Rattle.script_lang.specs.declared.plan.run_line.RunLine.{RunLine}
 use Rattle.script_lang.specs.declared.plan.script.Script.{Script}
+use Rattle.script_lang.specs.declared.plan.session_plan.SessionPlan.{SessionPlan}
 use Rattle.script_lang.specs.declared.parsing.script_error.ScriptFault.{ScriptFault}
 use Rattle.script_lang.specs.declared.parsing.script_error.ScriptFault.TheVariants.{NameTaken, TooManyLines}
-use Rattle.script_lang.specs.Draft.{draft_of, run_of}
+use Rattle.script_lang.specs.Draft.{draft_of, fault_of, run_of, shorter}
 use Rattle.script_lang.specs.Faults.{IsTaken, RowBreaks, SomeRowBreaks}
 use Rattle.script_lang.specs.Growth.{draft_with}
-use Rattle.script_lang.specs.Keeps.{CanName, IsBuiltAct, Keeps, KeepsAct, KeepsDeath, KeepsEntries, KeepsHomes, KeepsNames, KeepsPlan, KeepsRun, StandOnce}
+use Rattle.script_lang.specs.Keeps.{CanName, IsBuiltAct, Keeps, KeepsAct, KeepsDeath, KeepsEntries, KeepsFault, KeepsHomes, KeepsNames, KeepsPlan, KeepsRun, StandOnce}
 use Rattle.script_lang.specs.Lines.{lines_of}
 use Rattle.script_lang.specs.Meaning.{AllSay, Means, Says, script_of}
 use Rattle.script_lang.specs.Rows.{Row, keyword}
-use Rattle.script_lang.specs.SessionPlans.{plain}
 use Rattle.script_lang.specs.Spelling.{SomeRowSpells, SpellsAct}
 use Rattle.script_lang.proofs.GrowthLemmas.{draft_grows, says_has_place}
 use Rattle.script_lang.proofs.NameLemmas.{Contains-from_slice_get}
@@ -41,14 +39,19 @@ names_of draft = record { nodes = draft.nodes; clients = draft.clients }
 abbrev IsBuiltLine : RunLine → Type 0
 IsBuiltLine line = IsBuiltAct line.act
 
+abbrev IsFuse : ℕ → Type 0
+IsFuse left = left ≤ 4294967295
+
 -- the same of a draft
 pub record KeepsDraft (draft : Draft) : Type 0 where
   pub names : KeepsNames draft.nodes draft.clients
   pub homes : KeepsHomes draft.nodes draft.clients draft.homes
   pub entries : IfSome draft.entries KeepsEntries
+  pub faults : All KeepsFault draft.faults
+  pub fuse : IfSome draft.fuse IsFuse
   pub runs : All (KeepsRun (names_of draft)) draft.lines
   pub acts : All IsBuiltLine draft.lines
-  pub few : length draft.lines ≤ 100000
+  pub few : length draft.faults + length draft.lines ≤ 100000
 
 none_twice : StandOnce []
 none_twice i j name e f = cc
@@ -58,6 +61,8 @@ empty_keeps mode = record {
   names = record { nodes_named = All-nil CanName; clients_named = All-nil CanName; nodes_once = none_twice; clients_once = none_twice; apart = λ name has. absurd (omega (arith, has.1)); few_nodes = lit≤ tt; few_clients = lit≤ tt };
   homes = record { one_each = refl; declared = All-nil (λ (home : NodeId). home.0 < 0) };
   entries = tt;
+  faults = All-nil KeepsFault;
+  fuse = tt;
   runs = All-nil (KeepsRun (record { nodes = []; clients = [] }));
   acts = All-nil IsBuiltLine;
   few = lit≤ tt;
@@ -135,6 +140,10 @@ act_keeps draft row client Read spelled = (record { declared = slice_get_within 
 act_keeps draft row client (Go steps) spelled = (record { declared = slice_get_within draft.clients client.0 spelled.name spelled.declared; act = spelled.follow.is_number.high }, tt)
 act_keeps draft row client other spelled = absurd spelled.follow
 
+shorter_keeps : (other : Option ℕ) (left : ℕ) → IfSome other IsFuse → IsFuse left → IfSome (shorter other left) IsFuse
+shorter_keeps None left keeps within = within
+shorter_keeps (Some other) left keeps within = omega (arith, within)
+
 few_more : (n number m : ℕ) → n < number → ¬ (100000 < number) → m ≡ n + 1 → m ≤ 100000
 few_more n number m less few is = ⊎_elim (λ more. absurd (few (omega arith))) (λ within. within) (cases_lt 100000 m)
 
@@ -151,12 +160,12 @@ module _ (draft : Draft) (number : ℕ) (line : List ℕ) (keeps : KeepsDraft dr
       let P : List (List ℕ) → Type 0 = λ words. IsSomeAnd (slice_get words 0) (IsTaken draft) in
       kept (subst P (sym is) taken)
 
-  pub draft_keeps : (said : Line) → Says draft number line said → length draft.lines < number → KeepsDraft (draft_with draft said)
+  pub draft_keeps : (said : Line) → Says draft number line said → length draft.faults + length draft.lines < number → KeepsDraft (draft_with draft said)
   draft_keeps Nothing says few = keeps
-  draft_keeps (File main) says few = record { names = keeps.names; homes = keeps.homes; entries = keeps.entries; runs = keeps.runs; acts = keeps.acts; few = keeps.few }
+  draft_keeps (File main) says few = record { names = keeps.names; homes = keeps.homes; entries = keeps.entries; faults = keeps.faults; fuse = keeps.fuse; runs = keeps.runs; acts = keeps.acts; few = keeps.few }
   draft_keeps (History entries) says few =
       let number_is = says.spelled.spells.follow.is_number in
-      record { names = keeps.names; homes = keeps.homes; entries = record { some = number_is.low; few = number_is.high }; runs = keeps.runs; acts = keeps.acts; few = keeps.few }
+      record { names = keeps.names; homes = keeps.homes; entries = record { some = number_is.low; few = number_is.high }; faults = keeps.faults; fuse = keeps.fuse; runs = keeps.runs; acts = keeps.acts; few = keeps.few }
   draft_keeps (Node name) says few =
       let spelled = says.spelled in
       let place = says_has_place draft number line (Node name) says in
@@ -166,6 +175,8 @@ module _ (draft : Draft) (number : ℕ) (line : List ℕ) (keeps : KeepsDraft dr
             (fresh_name row.behind [] name row.follow.row (kept_rule (Node name) spelled (keyword word.Node row.behind) row.is NameTaken (says.keeps_rules NameTaken)));
         homes = homes_of_more_nodes draft.nodes draft.clients draft.homes name keeps.homes;
         entries = keeps.entries;
+        faults = keeps.faults;
+        fuse = keeps.fuse;
         runs = runs_of_more_names (names_of draft) (names_of (draft_with draft (Node name))) draft.lines (omega (arith, length-append draft.nodes (name ∷ []))) (omega arith) keeps.runs;
         acts = keeps.acts;
         few = keeps.few;
@@ -179,7 +190,33 @@ module _ (draft : Draft) (number : ℕ) (line : List ℕ) (keeps : KeepsDraft dr
             (fresh_name row.behind (codes "on" ∷ row.home_name ∷ []) name row.follow.row (kept_rule (Client name home) spelled (keyword word.Client row.behind) row.is NameTaken (says.keeps_rules NameTaken)));
         homes = one_home_more draft.nodes draft.clients draft.homes name home keeps.homes (slice_get_within draft.nodes home.0 row.home_name row.declared);
         entries = keeps.entries;
+        faults = keeps.faults;
+        fuse = keeps.fuse;
         runs = runs_of_more_names (names_of draft) (names_of (draft_with draft (Client name home))) draft.lines (omega arith) (omega (arith, length-append draft.clients (name ∷ []))) keeps.runs;
+        acts = keeps.acts;
+        few = keeps.few;
+      }
+  draft_keeps (Fault planned) says few =
+      let within : ¬ (100000 < number) = says.keeps_rules TooManyLines in
+      let number_is = says.spelled.spells.follow.is_number in
+      record {
+        names = keeps.names;
+        homes = keeps.homes;
+        entries = keeps.entries;
+        faults = All-push KeepsFault draft.faults planned keeps.faults (record { first = number_is.low; few = number_is.high });
+        fuse = keeps.fuse;
+        runs = keeps.runs;
+        acts = keeps.acts;
+        few = few_more (length draft.faults + length draft.lines) number (length (draft.faults ++ planned ∷ []) + length draft.lines) few within (omega (arith, length-append draft.faults (planned ∷ [])));
+      }
+  draft_keeps (Fuse left) says few =
+      record {
+        names = keeps.names;
+        homes = keeps.homes;
+        entries = keeps.entries;
+        faults = keeps.faults;
+        fuse = shorter_keeps draft.fuse left keeps.fuse says.spelled.spells.follow.is_number.high;
+        runs = keeps.runs;
         acts = keeps.acts;
         few = keeps.few;
       }
@@ -190,23 +227,28 @@ module _ (draft : Draft) (number : ℕ) (line : List ℕ) (keeps : KeepsDraft dr
         names = keeps.names;
         homes = keeps.homes;
         entries = keeps.entries;
+        faults = keeps.faults;
+        fuse = keeps.fuse;
         runs = All-push (KeepsRun (names_of draft)) draft.lines run keeps.runs kept.0;
         acts = All-push IsBuiltLine draft.lines run keeps.acts kept.1;
-        few = few_more (length draft.lines) number (length (draft.lines ++ run ∷ [])) few within (length-append draft.lines (run ∷ []));
+        few = few_more (length draft.faults + length draft.lines) number (length draft.faults + length (draft.lines ++ run ∷ [])) few within (omega (arith, length-append draft.lines (run ∷ [])));
       }
 
 -- all lines, one by one
-at_line : {X : Type 0} (found : Option X) (more : List X) (lines : List Line) → length more ≤ length lines → length (cons_option found more) ≤ suc (length lines)
-at_line None more lines fewer = omega arith
-at_line (Some x) more lines fewer = omega arith
-
-fewer_found : {X : Type 0} (find : Line → Option X) (lines : List Line) → length (filter_map find lines) ≤ length lines
-fewer_found find [] = lit≤ tt
-fewer_found find (line ∷ lines) = at_line (find line) (filter_map find lines) lines (fewer_found find lines)
+fewer_found : (lines : List Line) → length (filter_map fault_of lines) + length (filter_map run_of lines) ≤ length lines
+fewer_found [] = lit≤ tt
+fewer_found (Nothing ∷ lines) = omega (arith, fewer_found lines)
+fewer_found (File main ∷ lines) = omega (arith, fewer_found lines)
+fewer_found (History entries ∷ lines) = omega (arith, fewer_found lines)
+fewer_found (Node name ∷ lines) = omega (arith, fewer_found lines)
+fewer_found (Client name home ∷ lines) = omega (arith, fewer_found lines)
+fewer_found (Fault planned ∷ lines) = omega (arith, fewer_found lines)
+fewer_found (Fuse left ∷ lines) = omega (arith, fewer_found lines)
+fewer_found (Run line ∷ lines) = omega (arith, fewer_found lines)
 
 pub keeps_more : (mode : Mode) (before : List Line) (line : List ℕ) (said : Line) → KeepsDraft (draft_of mode before) → Says (draft_of mode before) (length before + 1) line said → KeepsDraft (draft_of mode (before ++ said ∷ []))
 keeps_more mode before line said keeps says =
-    let fewer : length (filter_map run_of before) ≤ length before = fewer_found run_of before in
+    let fewer : length (filter_map fault_of before) + length (filter_map run_of before) ≤ length before = fewer_found before in
     let place = says_has_place (draft_of mode before) (length before + 1) line said says in
     let P : Draft → Type 0 = KeepsDraft in
     subst P (sym (draft_grows mode before said place)) (draft_keeps (draft_of mode before) (length before + 1) line keeps said says (omega arith))
@@ -228,16 +270,16 @@ script_keeps mode bytes script means =
     let keeps = lines_keep mode [] (lines_of bytes) means.said means.each (empty_keeps mode) in
     let draft = draft_of mode means.said in
     let made = script_of draft in
-    let plan = plain draft.lines in
+    let plan : SessionPlan = record { folder_faults = draft.faults; fuse = draft.fuse; deaths = []; lines = draft.lines; stop = None } in
     let P : Script → Type 0 = Keeps in
     subst P (sym means.made) (record {
       names = keeps.names;
       homes = keeps.homes;
       entries = within_entries draft.entries keeps.entries;
       sessions = record {
-        plans = All-cons (KeepsPlan made) plan [] (record { faults = All-nil (λ (planned : Planned). 1 ≤ planned.number); deaths = All-nil (KeepsDeath draft.homes); runs = keeps.runs }) (All-nil (KeepsPlan made));
+        plans = All-cons (KeepsPlan made) plan [] (record { faults = keeps.faults; fuse = keeps.fuse; deaths = All-nil (KeepsDeath draft.homes); runs = keeps.runs }) (All-nil (KeepsPlan made));
         stops = refl;
         few = omega (arith, keeps.few);
       };
-      built = record { plan = plan; only = refl; plain = refl; acts = keeps.acts; unreplaced = refl };
+      built = record { plan = plan; only = refl; whole = record { deaths = refl; stop = refl }; acts = keeps.acts; unreplaced = refl };
     })

@@ -7,6 +7,7 @@ pub mod Decided
 pub mod EditTests
 pub mod ExampleReads
 pub mod ExampleTests
+pub mod FaultRows
 pub mod FileLemmas
 pub mod FileTest
 pub mod FreshTest

@@ -2,25 +2,27 @@
 use Rattle.std.proofs.Common.{ℕ, ◌≡◌, ◌<◌, ◌≤◌, ◌∙◌, ◌^◌, List, [], ◌∷◌, ◌⊎◌, Some, ap, sym, refl, subst, inl, inr, ⊎_elim, arith, lit≤}
 use Rattle.std.specs.Prelude.{codes, slice_get}
 use Rattle.std.proofs.lemmas.Fmt.{decimal_injective}
+use Rattle.folder_disk.specs.declared.call.FolderCall.{FolderCall}
+use Rattle.folder_disk.specs.declared.call.Planned.{Planned}
 use Rattle.folder_disk.specs.declared.main_read.MainRead.{MainRead}
 use Rattle.store_traits.specs.declared.ids.ClientId.{ClientId}
 use Rattle.store_traits.specs.declared.ids.NodeId.{NodeId}
 use Rattle.script_words.specs.Numbers.{IsNumberWithin}
 use Rattle.script_lang.specs.declared.parsing.draft.Draft.{Draft}
 use Rattle.script_lang.specs.declared.parsing.line.Line.{Line}
-use Rattle.script_lang.specs.declared.parsing.line.Line.TheVariants.{Nothing, File, History, Node, Client, Run}
+use Rattle.script_lang.specs.declared.parsing.line.Line.TheVariants.{Nothing, File, History, Node, Client, Fault, Fuse, Run}
 use Rattle.script_lang.specs.declared.parsing.line_word.LineWord.TheVariants as word
 use Rattle.script_lang.specs.declared.plan.run_line.Act.{Act}
 use Rattle.script_lang.specs.declared.plan.run_line.Act.TheVariants.{Go}
 use Rattle.script_lang.specs.CallWords.{AreCallWords}
 use Rattle.script_lang.specs.Keeps.{StandOnce}
-use Rattle.script_lang.specs.Rows.{Row, keyword, call, IsSkipped, IsFileWord, IsFileRow, IsHistoryRow, IsNodeRow, IsClientRow, IsGoRow}
+use Rattle.script_lang.specs.Rows.{Row, keyword, call, IsSkipped, IsFileWord, IsFileRow, IsHistoryRow, IsNodeRow, IsClientRow, IsFaultRow, IsFuseRow, IsGoRow, folder_call}
 use Rattle.script_lang.specs.Spelling.{LineSpells, SomeRowSpells, Spells, SpellsAct, SpellsCall}
 use Rattle.script_lang.proofs.CallLemmas.{one_call}
 use Rattle.script_lang.proofs.OneFile.{one_file}
-use Rattle.script_lang.proofs.OneRow.{first_same, one_row}
+use Rattle.script_lang.proofs.OneRow.{first_same, one_folder_call, one_row}
 
-one_number : (word : List ℕ) (least most a b : ℕ) → most ≤ 100000 → IsNumberWithin word least most a → IsNumberWithin word least most b → a ≡ b
+one_number : (word : List ℕ) (least most a b : ℕ) → most ≤ 4294967295 → IsNumberWithin word least most a → IsNumberWithin word least most b → a ≡ b
 one_number word least most a b bound is also =
     let a_high = is.high in
     let b_high = also.high in
@@ -52,6 +54,16 @@ record OfClient (draft : Draft) (behind : List (List ℕ)) (said : Line) : Type 
   follow : IsClientRow behind name home_name
   declared : slice_get draft.nodes home.0 ≡ Some home_name
 
+record OfFault (behind : List (List ℕ)) (said : Line) : Type 0 where
+  planned : Planned
+  is : said ≡ Fault planned
+  follow : IsFaultRow behind planned
+
+record OfFuse (behind : List (List ℕ)) (said : Line) : Type 0 where
+  left : ℕ
+  is : said ≡ Fuse left
+  follow : IsFuseRow behind left
+
 record OfGo (draft : Draft) (behind : List (List ℕ)) (said : Line) : Type 0 where
   name : List ℕ
   client : ClientId
@@ -72,6 +84,8 @@ OfRow draft (keyword word.File behind) said = OfFile behind said
 OfRow draft (keyword word.History behind) said = OfHistory behind said
 OfRow draft (keyword word.Node behind) said = OfNode behind said
 OfRow draft (keyword word.Client behind) said = OfClient draft behind said
+OfRow draft (keyword word.Fault behind) said = OfFault behind said
+OfRow draft (keyword word.Fuse behind) said = OfFuse behind said
 OfRow draft (keyword word.Go behind) said = OfGo draft behind said
 OfRow draft (keyword _ behind) said = ⊥
 OfRow draft (call first behind) said = OfCall draft first behind said
@@ -95,6 +109,8 @@ of_row draft row (Node name) spelled = let P : Row → Type 0 = λ r. OfRow draf
 of_row draft row (Client name home) spelled =
     let P : Row → Type 0 = λ r. OfRow draft r (Client name home) in
     subst P (sym spelled.is) (record { name = name; home_name = spelled.home_name; home = home; is = refl; follow = spelled.follow; declared = spelled.declared })
+of_row draft row (Fault planned) spelled = let P : Row → Type 0 = λ r. OfRow draft r (Fault planned) in subst P (sym spelled.is) (record { planned = planned; is = refl; follow = spelled.follow })
+of_row draft row (Fuse left) spelled = let P : Row → Type 0 = λ r. OfRow draft r (Fuse left) in subst P (sym spelled.is) (record { left = left; is = refl; follow = spelled.follow })
 of_row draft row (Run run) spelled = act_of_row draft row run.client run.act spelled
 
 same_node : (a b : NodeId) → a.0 ≡ b.0 → a ≡ b
@@ -132,6 +148,21 @@ module _ (draft : Draft) (nodes_once : StandOnce draft.nodes) (clients_once : St
       let ids : x.home ≡ y.home = same_node x.home y.home (at_same_place draft.nodes nodes_once x.home.0 y.home.0 x.home_name y.home_name homes x.declared y.declared) in
       x.is ∙ ap (λ (n : List ℕ). Client n x.home) names ∙ ap (λ (h : NodeId). Client y.name h) ids ∙ sym y.is
 
+  both_faults : (behind : List (List ℕ)) → OfFault behind a → OfFault behind b → a ≡ b
+  both_faults behind x y =
+      let cut = first_same (folder_call x.planned.call) (folder_call y.planned.call) (x.follow.word ∷ []) (y.follow.word ∷ []) (sym x.follow.row ∙ y.follow.row) in
+      let calls : x.planned.call ≡ y.planned.call = one_folder_call x.planned.call y.planned.call cut.0 in
+      let words : x.follow.word ≡ y.follow.word = (first_same x.follow.word y.follow.word [] [] cut.1).0 in
+      let P : List ℕ → Type 0 = λ w. IsNumberWithin w 1 4294967295 x.planned.number in
+      let numbers : x.planned.number ≡ y.planned.number = one_number y.follow.word 1 4294967295 x.planned.number y.planned.number (lit≤ tt) (subst P words x.follow.is_number) y.follow.is_number in
+      x.is ∙ ap (λ (c : FolderCall). Fault (record { call = c; number = x.planned.number })) calls ∙ ap (λ (n : ℕ). Fault (record { call = y.planned.call; number = n })) numbers ∙ sym y.is
+
+  both_fuses : (behind : List (List ℕ)) → OfFuse behind a → OfFuse behind b → a ≡ b
+  both_fuses behind x y =
+      let words = (first_same x.follow.word y.follow.word [] [] (sym x.follow.row ∙ y.follow.row)).0 in
+      let P : List ℕ → Type 0 = λ w. IsNumberWithin w 0 4294967295 x.left in
+      x.is ∙ ap Fuse (one_number y.follow.word 0 4294967295 x.left y.left (lit≤ tt) (subst P words x.follow.is_number) y.follow.is_number) ∙ sym y.is
+
   both_gos : (behind : List (List ℕ)) → OfGo draft behind a → OfGo draft behind b → a ≡ b
   both_gos behind x y =
       let rows = sym x.follow.row ∙ y.follow.row in
@@ -154,6 +185,8 @@ module _ (draft : Draft) (nodes_once : StandOnce draft.nodes) (clients_once : St
   both_of_row (keyword word.History behind) x y = both_bounds behind x y
   both_of_row (keyword word.Node behind) x y = both_nodes behind x y
   both_of_row (keyword word.Client behind) x y = both_clients behind x y
+  both_of_row (keyword word.Fault behind) x y = both_faults behind x y
+  both_of_row (keyword word.Fuse behind) x y = both_fuses behind x y
   both_of_row (keyword word.Go behind) x y = both_gos behind x y
   both_of_row (keyword _ behind) x y = absurd x
   both_of_row (call first behind) x y = both_calls first behind x y
@@ -170,6 +203,8 @@ skips_or_says draft line (File main) spelled = inr spelled
 skips_or_says draft line (History entries) spelled = inr spelled
 skips_or_says draft line (Node name) spelled = inr spelled
 skips_or_says draft line (Client name home) spelled = inr spelled
+skips_or_says draft line (Fault planned) spelled = inr spelled
+skips_or_says draft line (Fuse left) spelled = inr spelled
 skips_or_says draft line (Run run) spelled = inr spelled
 
 pub one_meaning : (draft : Draft) → StandOnce draft.nodes → StandOnce draft.clients → (line : List ℕ) (a b : Line) → LineSpells draft line a → LineSpells draft line b → a ≡ b

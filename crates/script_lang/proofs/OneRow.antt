@@ -1,11 +1,13 @@
 -- Each line has one row.
 use Rattle.std.proofs.Common.{ℕ, ◌≡◌, ◌==◌, ◌+◌, ◌*◌, ◌∙◌, List, ◌∷◌, length, cond, ap, sym, refl, subst}
 use Rattle.std.specs.Prelude.{slice_index}
+use Rattle.folder_disk.specs.declared.call.FolderCall.{FolderCall}
+use Rattle.folder_disk.specs.declared.call.FolderCall.TheVariants.{ReadMain, Create, Append, SyncScratch, Rename, SyncFolder}
 use Rattle.script_words.proofs.OneLine.{one_list}
 use Rattle.script_lang.specs.declared.parsing.line_word.LineWord.{LineWord}
 use Rattle.script_lang.specs.declared.parsing.line_word.LineWord.TheVariants.{File, History, Handler, Legacy, Migrate, Node, Client, Fault, Fuse, Die, Go, Stop}
 use Rattle.script_lang.specs.LineWord.{line_word}
-use Rattle.script_lang.specs.Rows.{Row, keyword, call, HasRow, IsRow}
+use Rattle.script_lang.specs.Rows.{Row, keyword, call, HasRow, IsRow, folder_call}
 
 -- a line word by its first two letters and its length
 word_at : ℕ → LineWord
@@ -31,6 +33,22 @@ word_at-code Stop = refl
 
 pub one_word : (a b : LineWord) → line_word a ≡ line_word b → a ≡ b
 one_word a b e = sym (word_at-code a) ∙ ap (λ text. word_at (code_of text)) e ∙ word_at-code b
+
+-- a call of the folder by the same
+call_at : ℕ → FolderCall
+call_at code = cond (code == 426) ReadMain (cond (code == 447) Create (cond (code == 439) Append (cond (code == 482) SyncScratch (cond (code == 423) Rename SyncFolder))))
+
+call_at-code : (call : FolderCall) → call_at (code_of (folder_call call)) ≡ call
+unfolding call_at code_of
+call_at-code ReadMain = refl
+call_at-code Create = refl
+call_at-code Append = refl
+call_at-code SyncScratch = refl
+call_at-code Rename = refl
+call_at-code SyncFolder = refl
+
+pub one_folder_call : (a b : FolderCall) → folder_call a ≡ folder_call b → a ≡ b
+one_folder_call a b e = sym (call_at-code a) ∙ ap (λ text. call_at (code_of text)) e ∙ call_at-code b
 
 pub first_same : {X : Type 0} (a b : X) (more rest : List X) → a ∷ more ≡ b ∷ rest → (a ≡ b) × (more ≡ rest)
 first_same a b more rest e = (cc, cc)

@@ -1,10 +1,11 @@
 -- The sessions of a transcript, as they follow one another over stops of the machine.
-use Rattle.std.specs.Prelude.{◌≡◌, ℕ, ◌-◌, min, true, List, [], ◌∷◌, ◌++◌, length, slice_index_or, map, Option, Some, None, unwrap_or, if◌then◌else◌}
+use Rattle.std.specs.Prelude.{◌≡◌, ℕ, true, List, [], ◌∷◌, ◌++◌, length, map, Option, Some, None, unwrap_or, if◌then◌else◌}
 use Rattle.std.specs.List.{enumerate_from}
 use Rattle.store_traits.specs.declared.ids.NodeId.{NodeId}
-use Rattle.folder_disk.specs.Due.{Due}
+use Rattle.folder_disk.specs.Due.{Due, in_order}
 use Rattle.folder_disk.specs.MainRead.{main_of}
 use Rattle.folder_disk.specs.Planned.{no_calls}
+use Rattle.folder_disk.specs.Stops.{image}
 use Rattle.folder_disk.specs.Tally.{Tally, most_of}
 use Rattle.prefs_model.specs.declared.pref_pair.PrefPair.{PrefPair}
 use Rattle.prefs_edit.specs.declared.edit_step.EditStep.{EditStep}
@@ -49,17 +50,13 @@ first_beginning script = record { main = main_of script.start.file; folder = 0; 
 abbrev pub nodes_of : Script → List NodeId
 nodes_of script = map (λ placed. record { 0 = placed.0 }) (enumerate_from 0 script.names.nodes)
 
--- the image with this number, counted from 0, or the last where there are fewer
-abbrev pub image : ℕ → List (Option (List ℕ)) → Option (List ℕ)
-image number all = slice_index_or all (min number (length all - 1)) None
-
 abbrev pub fuses_of : Option ℕ → List ℕ
 fuses_of None = []
 fuses_of (Some left) = left ∷ []
 
 -- what the plan has fail: calls of the folder by their number, and each behind a fuse
 abbrev pub due_of : SessionPlan → Due
-due_of plan = record { planned = plan.folder_faults; made = no_calls; fuses = fuses_of plan.fuse }
+due_of plan = record { planned = in_order plan.folder_faults; made = no_calls; fuses = fuses_of plan.fuse }
 
 -- where so many calls had failed before
 abbrev pub tally_of : ℕ → SessionPlan → Tally

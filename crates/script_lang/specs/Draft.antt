@@ -1,11 +1,12 @@
 -- The script that lines make.
-use Rattle.std.specs.Prelude.{ℕ, List, Option, Some, None, slice_get}
+use Rattle.std.specs.Prelude.{ℕ, min, Bool, true, false, ◌&&◌, ◌||◌, List, [], ◌∷◌, Option, Some, None, slice_get, fold}
 use Rattle.std.specs.List.{filter_map}
+use Rattle.folder_disk.specs.declared.call.Planned.{Planned}
 use Rattle.folder_disk.specs.declared.main_read.MainRead.{MainRead}
 use Rattle.store_traits.specs.declared.ids.NodeId.{NodeId}
 use Rattle.script_lang.specs.declared.parsing.draft.Draft.{Draft}
 use Rattle.script_lang.specs.declared.parsing.line.Line.{Line}
-use Rattle.script_lang.specs.declared.parsing.line.Line.TheVariants.{File, History, Node, Client, Run}
+use Rattle.script_lang.specs.declared.parsing.line.Line.TheVariants.{File, History, Node, Client, Fault, Fuse, Run}
 use Rattle.script_lang.specs.declared.plan.mode.Mode.{Mode}
 use Rattle.script_lang.specs.declared.plan.run_line.RunLine.{RunLine}
 
@@ -33,7 +34,36 @@ abbrev pub run_of : Line → Option RunLine
 run_of (Run line) = Some line
 run_of _ = None
 
--- what the lines declare, each in their order; of the file and of the bound the first
+abbrev pub fault_of : Line → Option Planned
+fault_of (Fault planned) = Some planned
+fault_of _ = None
+
+abbrev pub fuse_of : Line → Option ℕ
+fuse_of (Fuse left) = Some left
+fuse_of _ = None
+
+-- of several fuses the one that is used up first
+abbrev pub shorter : Option ℕ → ℕ → Option ℕ
+shorter None left = Some left
+shorter (Some other) left = Some (min other left)
+
+abbrev pub is_node : Line → Bool
+is_node (Node name) = true
+is_node _ = false
+
+-- a line of another sort than those that declare: behind a node, no `node` and no `client` line stands behind it
+abbrev pub is_plan : Line → Bool
+is_plan (Fault planned) = true
+is_plan (Fuse left) = true
+is_plan (Run line) = true
+is_plan _ = false
+
+-- such a line stands among these; `noded` says whether a node stands before them
+abbrev pub closes : (noded : Bool) → List Line → Bool
+closes noded [] = false
+closes noded (line ∷ lines) = (noded && is_plan line) || closes (noded || is_node line) lines
+
+-- what the lines declare, each in their order; of the file and of the bound the first, and of the fuses the shortest
 abbrev pub draft_of : Mode → List Line → Draft
 draft_of mode lines = record {
   mode = mode;
@@ -42,5 +72,8 @@ draft_of mode lines = record {
   homes = filter_map home_of lines;
   file = slice_get (filter_map file_of lines) 0;
   entries = slice_get (filter_map entries_of lines) 0;
+  faults = filter_map fault_of lines;
+  fuse = fold shorter None (filter_map fuse_of lines);
   lines = filter_map run_of lines;
+  is_closed = closes false lines;
 }

@@ -1,19 +1,22 @@
 -- What a line can break, each rule by itself.
-use Rattle.std.specs.Prelude.{ℕ, ◌≡◌, ◌<◌, ◌≤◌, ◌⊎◌, List, length, Contains, IsSome, slice_get}
+use Rattle.std.specs.Prelude.{ℕ, ◌≡◌, ◌<◌, ◌≤◌, ◌⊎◌, nat_lt, Bool, IsTrue, List, [], ◌∷◌, length, Contains, IsSome, slice_get}
 use Rattle.std.specs.Option.{IsSomeAnd}
 use Rattle.std.specs.Str.{IsUtf8}
+use Rattle.folder_disk.specs.declared.call.Planned.{Planned}
 use Rattle.folder_disk.specs.declared.main_read.MainRead.{MainRead}
 use Rattle.script_words.specs.Names.{IsName, reserved}
 use Rattle.script_lang.specs.declared.parsing.draft.Draft.{Draft}
-use Rattle.script_lang.specs.declared.parsing.line_word.LineWord.TheVariants.{File, History, Node, Client, Go}
+use Rattle.script_lang.specs.declared.parsing.line_word.LineWord.TheVariants.{File, History, Node, Client, Fault, Fuse, Go}
 use Rattle.script_lang.specs.declared.plan.mode.Mode.TheVariants.{Nodes}
 use Rattle.script_lang.specs.declared.parsing.script_error.ScriptFault.{ScriptFault}
 use Rattle.script_lang.specs.declared.parsing.script_error.ScriptFault.TheVariants as fault
 use Rattle.script_lang.specs.CallWords.{AreNoCall, HasUnknownCall}
 use Rattle.script_lang.specs.LineWord.{IsUnbuilt}
-use Rattle.script_lang.specs.Rows.{Row, keyword, call, HasRow, IsSkipped, IsFileRow, IsHistoryRow, IsNodeRow, IsClientRow, IsGoRow}
+use Rattle.script_lang.specs.Rows.{Row, keyword, call, HasRow, IsSkipped, IsFileRow, IsHistoryRow, IsNodeRow, IsClientRow, IsFolderCall, IsFaultRow, IsFuseRow, IsGoRow}
 
 abbrev pub HasUnknownWord : Row → Type 0
+HasUnknownWord (keyword Fault []) = ⊥
+HasUnknownWord (keyword Fault (word ∷ behind)) = ¬ IsFolderCall word
 HasUnknownWord (keyword word behind) = IsUnbuilt word
 HasUnknownWord (call first behind) = (¬ IsName first) ⊎ HasUnknownCall behind
 
@@ -23,6 +26,8 @@ HasBadValue (keyword File behind) = (main : MainRead) → ¬ IsFileRow behind ma
 HasBadValue (keyword History behind) = (entries : ℕ) → ¬ IsHistoryRow behind entries
 HasBadValue (keyword Node behind) = (name : List ℕ) → ¬ IsNodeRow behind name
 HasBadValue (keyword Client behind) = (name home : List ℕ) → ¬ IsClientRow behind name home
+HasBadValue (keyword Fault behind) = (planned : Planned) → ¬ IsFaultRow behind planned
+HasBadValue (keyword Fuse behind) = (left : ℕ) → ¬ IsFuseRow behind left
 HasBadValue (keyword Go behind) = (client : List ℕ) (steps : ℕ) → ¬ IsGoRow behind client steps
 HasBadValue (keyword _ behind) = ⊥
 HasBadValue (call first behind) = AreNoCall behind
@@ -49,12 +54,15 @@ IsOneTooMany draft (keyword Client behind) = 64 ≤ length draft.clients
 IsOneTooMany draft _ = ⊥
 
 -- a node stands before the line
+abbrev pub follows_node : Draft → Bool
+follows_node draft = nat_lt 0 (length draft.nodes)
+
 abbrev pub FollowsNode : Draft → Type 0
 FollowsNode draft = 0 < length draft.nodes
 
--- a line of another sort than `node` and `client` stands behind a node. Such lines are those that clients follow
+-- a line of another sort than `node` and `client` stands behind a node
 abbrev pub FollowsOther : Draft → Type 0
-FollowsOther draft = 0 < length draft.lines
+FollowsOther draft = IsTrue draft.is_closed
 
 -- by `nodes` the file is there already
 abbrev pub BarsFile : Draft → Type 0
@@ -64,12 +72,14 @@ abbrev pub BarsHistory : Draft → Type 0
 BarsHistory draft = FollowsNode draft ⊎ IsSome draft.entries
 
 -- `file` and `history` stand before the first node, each once at most, and `node` and `client` before the first line
--- of another sort that follows them
+-- of another sort that follows them. By `nodes` no call of the folder is planned to fail
 abbrev pub StandsWrong : Draft → Row → Type 0
 StandsWrong draft (keyword File behind) = BarsFile draft
 StandsWrong draft (keyword History behind) = BarsHistory draft
 StandsWrong draft (keyword Node behind) = FollowsOther draft
 StandsWrong draft (keyword Client behind) = FollowsOther draft
+StandsWrong draft (keyword Fault behind) = draft.mode ≡ Nodes
+StandsWrong draft (keyword Fuse behind) = draft.mode ≡ Nodes
 StandsWrong draft _ = ⊥
 
 -- the faults that a line's words can have

@@ -1,6 +1,7 @@
 -- What is asked of each script: of its names, its ids, its numbers and its limits; and which scripts are built so far.
-use Rattle.std.specs.Prelude.{ℕ, ◌≡◌, ◌<◌, ◌≤◌, false, List, [], ◌∷◌, length, sum_by, All, Contains, Some, slice_get}
+use Rattle.std.specs.Prelude.{ℕ, ◌≡◌, ◌<◌, ◌≤◌, false, List, [], ◌∷◌, length, sum_by, All, Contains, Some, IfSome, slice_get}
 use Rattle.store_traits.specs.declared.ids.NodeId.{NodeId}
+use Rattle.folder_disk.specs.declared.call.Planned.{Planned}
 use Rattle.prefs_edit.specs.Edit.{IsEdit}
 use Rattle.prefs_text.specs.declared.names.Names.{Names}
 use Rattle.script_words.specs.Names.{IsName, reserved}
@@ -10,7 +11,7 @@ use Rattle.script_lang.specs.declared.plan.run_line.Act.TheVariants.{Update, Rea
 use Rattle.script_lang.specs.declared.plan.run_line.RunLine.{RunLine}
 use Rattle.script_lang.specs.declared.plan.script.Script.{Script}
 use Rattle.script_lang.specs.declared.plan.session_plan.SessionPlan.{SessionPlan}
-use Rattle.script_lang.specs.SessionPlans.{StopBetween, plain}
+use Rattle.script_lang.specs.SessionPlans.{IsWhole, StopBetween, lines_in}
 
 -- the word can name a node or a client
 pub record CanName (word : List ℕ) : Type 0 where
@@ -57,15 +58,21 @@ pub record KeepsDeath (homes : List NodeId) (death : PlannedDeath) : Type 0 wher
   pub home : slice_get homes death.call.client.0 ≡ Some death.call.node
   pub first : 1 ≤ death.call.number
 
+-- the calls of a kind are counted from 1, and the numbers of planned failures end at 4,294,967,295
+pub record KeepsFault (planned : Planned) : Type 0 where
+  pub first : 1 ≤ planned.number
+  pub few : planned.number ≤ 4294967295
+
 pub record KeepsPlan (script : Script) (plan : SessionPlan) : Type 0 where
-  pub faults : All (λ planned. 1 ≤ planned.number) plan.folder_faults
+  pub faults : All KeepsFault plan.folder_faults
+  pub fuse : IfSome plan.fuse (λ left. left ≤ 4294967295)
   pub deaths : All (KeepsDeath script.homes) plan.deaths
   pub runs : All (KeepsRun script.names) plan.lines
 
 pub record KeepsSessions (script : Script) : Type 0 where
   pub plans : All (KeepsPlan script) script.sessions
   pub stops : StopBetween script.sessions
-  pub few : sum_by (λ plan. length plan.lines) script.sessions ≤ 100000
+  pub few : sum_by lines_in script.sessions ≤ 100000
 
 -- the acts that are built so far
 abbrev pub IsBuiltAct : Act → Type 0
@@ -74,15 +81,11 @@ IsBuiltAct Read = Unit {0}
 IsBuiltAct (Go steps) = Unit {0}
 IsBuiltAct other = ⊥
 
--- a session in which nothing is planned to fail: no line says so yet
-abbrev pub IsPlain : SessionPlan → Type 0
-IsPlain plan = plan ≡ plain plan.lines
-
--- what lines say so far: one session, in which all goes well
+-- what lines say so far: one session, in which calls of the folder may fail
 pub record IsBuilt (script : Script) : Type 0 where
   pub plan : SessionPlan
   pub only : script.sessions ≡ plan ∷ []
-  pub plain : IsPlain plan
+  pub whole : IsWhole plan
   pub acts : All (λ line. IsBuiltAct line.act) plan.lines
   pub unreplaced : script.start.replace ≡ false
 

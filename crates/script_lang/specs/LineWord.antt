@@ -23,5 +23,7 @@ IsUnbuilt File = ⊥
 IsUnbuilt History = ⊥
 IsUnbuilt Node = ⊥
 IsUnbuilt Client = ⊥
+IsUnbuilt Fault = ⊥
+IsUnbuilt Fuse = ⊥
 IsUnbuilt Go = ⊥
 IsUnbuilt _ = Unit {0}

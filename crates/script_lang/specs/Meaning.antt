@@ -1,5 +1,5 @@
 -- What lines say, and which bytes are a script.
-use Rattle.std.specs.Prelude.{ℕ, ◌≡◌, ◌+◌, ◌⊎◌, List, [], ◌∷◌, ◌++◌, length, false, unwrap_or}
+use Rattle.std.specs.Prelude.{ℕ, ◌≡◌, ◌+◌, ◌⊎◌, List, [], ◌∷◌, ◌++◌, length, false, None, unwrap_or}
 use Rattle.folder_disk.specs.declared.main_read.MainRead.TheVariants.{Absent}
 use Rattle.script_lang.specs.declared.parsing.draft.Draft.{Draft}
 use Rattle.script_lang.specs.declared.parsing.line.Line.{Line}
@@ -11,7 +11,6 @@ use Rattle.script_lang.specs.declared.parsing.script_error.ScriptFault.TheVarian
 use Rattle.script_lang.specs.Draft.{draft_of}
 use Rattle.script_lang.specs.Faults.{Breaks, IsLeast}
 use Rattle.script_lang.specs.Lines.{lines_of}
-use Rattle.script_lang.specs.SessionPlans.{plain}
 use Rattle.script_lang.specs.Spelling.{LineSpells}
 
 -- the line with this number, behind lines that made the draft: it is spelled so, and breaks no rule
@@ -25,13 +24,13 @@ AllSay mode before [] [] = Unit {0}
 AllSay mode before (line ∷ lines) (said ∷ more) = Says (draft_of mode before) (length before + 1) line said × AllSay mode (before ++ said ∷ []) lines more
 AllSay mode before _ _ = ⊥
 
--- there is one session, in which nothing is planned to fail
+-- there is one session, in which no node dies and which no stop ends
 abbrev pub script_of : Draft → Script
 script_of draft = record {
   names = record { nodes = draft.nodes; clients = draft.clients };
   homes = draft.homes;
   start = record { file = unwrap_or draft.file Absent; entries = unwrap_or draft.entries 100000; replace = false };
-  sessions = plain draft.lines ∷ [];
+  sessions = record { folder_faults = draft.faults; fuse = draft.fuse; deaths = []; lines = draft.lines; stop = None } ∷ [];
 }
 
 -- the bytes are this script

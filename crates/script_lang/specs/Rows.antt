@@ -1,6 +1,9 @@
 -- A line by its first word, and what may stand behind it.
 use Rattle.std.specs.Prelude.{ℕ, ◌≡◌, ◌≢◌, ◌<◌, ◌⊎◌, List, [], ◌∷◌, length, codes}
 use Rattle.hex.specs.Hex.{encode_lower, IsBytes}
+use Rattle.folder_disk.specs.declared.call.FolderCall.{FolderCall}
+use Rattle.folder_disk.specs.declared.call.FolderCall.TheVariants.{ReadMain, Create, Append, SyncScratch, Rename, SyncFolder}
+use Rattle.folder_disk.specs.declared.call.Planned.{Planned}
 use Rattle.folder_disk.specs.declared.main_read.MainRead.{MainRead}
 use Rattle.folder_disk.specs.declared.main_read.MainRead.TheVariants.{Absent, Bytes}
 use Rattle.script_words.specs.Names.{IsName}
@@ -59,6 +62,31 @@ pub record IsNodeRow (behind : List (List ℕ)) (name : List ℕ) : Type 0 where
 pub record IsClientRow (behind : List (List ℕ)) (name home : List ℕ) : Type 0 where
   pub row : behind ≡ name ∷ codes "on" ∷ home ∷ []
   pub is_name : IsName name
+
+-- the calls of the folder by their words
+abbrev pub folder_call : FolderCall → List ℕ
+folder_call ReadMain = codes "read_main"
+folder_call Create = codes "create"
+folder_call Append = codes "append"
+folder_call SyncScratch = codes "sync"
+folder_call Rename = codes "rename"
+folder_call SyncFolder = codes "sync_folder"
+
+pub record IsFolderCall (word : List ℕ) : Type 0 where
+  pub call : FolderCall
+  pub is : word ≡ folder_call call
+
+-- `fault CALL N`
+pub record IsFaultRow (behind : List (List ℕ)) (planned : Planned) : Type 0 where
+  pub word : List ℕ
+  pub row : behind ≡ folder_call planned.call ∷ word ∷ []
+  pub is_number : IsNumberWithin word 1 4294967295 planned.number
+
+-- `fuse N`
+pub record IsFuseRow (behind : List (List ℕ)) (left : ℕ) : Type 0 where
+  pub word : List ℕ
+  pub row : behind ≡ word ∷ []
+  pub is_number : IsNumberWithin word 0 4294967295 left
 
 -- `go CLIENT N`
 pub record IsGoRow (behind : List (List ℕ)) (client : List ℕ) (steps : ℕ) : Type 0 where

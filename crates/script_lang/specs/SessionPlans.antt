@@ -1,11 +1,20 @@
 -- The plans of sessions: one in which all goes well, and how sessions follow one another.
-use Rattle.std.specs.Prelude.{◌≡◌, ◌-◌, true, false, List, [], ◌∷◌, ◌++◌, length, replicate, map, None, is_some}
+use Rattle.std.specs.Prelude.{ℕ, ◌≡◌, ◌+◌, ◌-◌, true, false, List, [], ◌∷◌, ◌++◌, length, replicate, map, None, is_some}
 use Rattle.script_lang.specs.declared.plan.run_line.RunLine.{RunLine}
 use Rattle.script_lang.specs.declared.plan.session_plan.SessionPlan.{SessionPlan}
 
 -- nothing is planned to fail, and no stop ends the session
 abbrev pub plain : List RunLine → SessionPlan
 plain lines = record { folder_faults = []; fuse = None; deaths = []; lines = lines; stop = None }
+
+-- no node dies in the session, and no stop ends it
+pub record IsWhole (plan : SessionPlan) : Type 0 where
+  pub deaths : plan.deaths ≡ []
+  pub stop : plan.stop ≡ None
+
+-- how many lines of a script say what happens in the session, at the least
+abbrev pub lines_in : SessionPlan → ℕ
+lines_in plan = length plan.folder_faults + length plan.deaths + length plan.lines
 
 -- each session but the last ends in a stop
 abbrev pub StopBetween : List SessionPlan → Type 0

@@ -1,16 +1,17 @@
 -- How a line spells what it says.
 use Rattle.std.specs.Prelude.{ℕ, ◌≡◌, List, Some, slice_get}
+use Rattle.folder_disk.specs.declared.call.Planned.{Planned}
 use Rattle.folder_disk.specs.declared.main_read.MainRead.{MainRead}
 use Rattle.store_traits.specs.declared.ids.ClientId.{ClientId}
 use Rattle.store_traits.specs.declared.ids.NodeId.{NodeId}
 use Rattle.script_lang.specs.declared.parsing.draft.Draft.{Draft}
 use Rattle.script_lang.specs.declared.parsing.line.Line.{Line}
-use Rattle.script_lang.specs.declared.parsing.line.Line.TheVariants.{Nothing, File, History, Node, Client, Run}
+use Rattle.script_lang.specs.declared.parsing.line.Line.TheVariants.{Nothing, File, History, Node, Client, Fault, Fuse, Run}
 use Rattle.script_lang.specs.declared.parsing.line_word.LineWord.TheVariants as word
 use Rattle.script_lang.specs.declared.plan.run_line.Act.{Act}
 use Rattle.script_lang.specs.declared.plan.run_line.Act.TheVariants.{Go}
 use Rattle.script_lang.specs.CallWords.{AreCallWords}
-use Rattle.script_lang.specs.Rows.{Row, keyword, call, HasRow, IsSkipped, IsFileRow, IsHistoryRow, IsNodeRow, IsClientRow, IsGoRow}
+use Rattle.script_lang.specs.Rows.{Row, keyword, call, HasRow, IsSkipped, IsFileRow, IsHistoryRow, IsNodeRow, IsClientRow, IsFaultRow, IsFuseRow, IsGoRow}
 
 pub record SpellsFile (row : Row) (main : MainRead) : Type 0 where
   pub behind : List (List ℕ)
@@ -34,6 +35,16 @@ pub record SpellsClient (draft : Draft) (row : Row) (name : List ℕ) (home : No
   pub is : row ≡ keyword word.Client behind
   pub follow : IsClientRow behind name home_name
   pub declared : slice_get draft.nodes home.0 ≡ Some home_name
+
+pub record SpellsFault (row : Row) (planned : Planned) : Type 0 where
+  pub behind : List (List ℕ)
+  pub is : row ≡ keyword word.Fault behind
+  pub follow : IsFaultRow behind planned
+
+pub record SpellsFuse (row : Row) (left : ℕ) : Type 0 where
+  pub behind : List (List ℕ)
+  pub is : row ≡ keyword word.Fuse behind
+  pub follow : IsFuseRow behind left
 
 pub record SpellsGo (draft : Draft) (row : Row) (client : ClientId) (steps : ℕ) : Type 0 where
   pub behind : List (List ℕ)
@@ -59,6 +70,8 @@ Spells draft row (File main) = SpellsFile row main
 Spells draft row (History entries) = SpellsHistory row entries
 Spells draft row (Node name) = SpellsNode row name
 Spells draft row (Client name home) = SpellsClient draft row name home
+Spells draft row (Fault planned) = SpellsFault row planned
+Spells draft row (Fuse left) = SpellsFuse row left
 Spells draft row (Run line) = SpellsAct draft row line.client line.act
 
 -- some row that the line has spells this

@@ -1,8 +1,10 @@
 -- Transcripts that do not tell the truth: of each, one thing is wrong, and one of the nine rules is broken.
 use Rattle.std.specs.Prelude.{[], ◌∷◌, ◌++◌, codes, None, Some}
 use Rattle.store_traits.specs.declared.step.Step.TheVariants.{U8}
+use Rattle.folder_disk.specs.declared.call.FolderCall.TheVariants.{SyncFolder}
+use Rattle.hist_journal.specs.declared.device.Device.TheVariants.{Folder}
 use Rattle.hist_journal.specs.declared.seen.BaseSeen.TheVariants.{Held}
-use Rattle.hist_journal.specs.declared.seen.KindSeen.TheVariants.{Raise, Edit, Synced, Inited, Death}
+use Rattle.hist_journal.specs.declared.seen.KindSeen.TheVariants.{Raise, Edit, Synced, Fault, Inited, Death}
 use Rattle.folder_disk.specs.declared.main_read.MainRead.TheVariants as main
 use Rattle.prefs_text.specs.declared.seen.AnswerSeen.TheVariants as answer
 use Rattle.prefs_text.specs.declared.seen.AnswerSeen.TheVariants.{Updated, Unchanged, Died, Posted, Restarted, Cut}
@@ -10,8 +12,9 @@ use Rattle.script_lang.specs.declared.transcripts.file_seen.FileSeen.TheVariants
 use Rattle.script_lang.specs.declared.plan.script.Script.{Script}
 use Rattle.script_lang.specs.declared.transcripts.transcript.Transcript.{Transcript}
 use Rattle.script_lang.specs.Rules.{Breaks, Rule}
+use Rattle.script_lang.specs.SessionPlans.{plain}
 use Rattle.script_lang.specs.TranscriptView.{SessionSeen}
-use Rattle.script_lang.specs.TruthExamples.{a, actor, add, answered, b, basis, death_and_stop, death_and_stop_plan, death_told, did, encoded, entry, flows_told, holds, names, read_plan, read_told, restart_told, script, set, sync_failed_plan, told, two_nodes_plan, two_nodes_told, two_posts_told, update}
+use Rattle.script_lang.specs.TruthExamples.{a, actor, add, answered, asks, b, basis, death_and_stop, death_and_stop_plan, death_told, did, encoded, entry, flows_told, holds, names, read_plan, read_told, restart_told, script, set, sync_failed_plan, told, two_nodes_plan, two_nodes_told, two_posts_told, update}
 
 abbrev pub Untrue : Rule → Script → Transcript → Type 0
 Untrue = Breaks basis
@@ -43,6 +46,20 @@ abbrev pub raise_left_out : SessionSeen
 raise_left_out =
     record two_nodes_told {
       entries = entry (a 1) (Inited (a 1).node) ∷ entry (a 1) (Edit (add (codes "x"))) ∷ entry (a 1) Synced ∷ update (b 1) (add (codes "x"));
+    }
+
+-- the folder fails behind the rename, and what the call added stands
+abbrev pub add_unsynced : Script
+add_unsynced = script main.Absent (record (plain (asks (a 1) (add (codes "x")) ∷ [])) { folder_faults = record { call = SyncFolder; number = 1 } ∷ [] })
+
+-- the call does its update again behind that fault
+abbrev pub done_again : SessionSeen
+done_again =
+    record {
+      base = Held [];
+      answers = answered (a 1) (Updated 2) ∷ [];
+      entries = entry (a 1) (Inited (a 1).node) ∷ entry (a 1) Raise ∷ entry (a 1) (Edit (add (codes "x"))) ∷ entry (a 1) (Fault Folder 1) ∷ entry (a 1) Raise ∷ entry (a 1) (Edit (add (codes "x"))) ∷ entry (a 1) Synced ∷ [];
+      file = Bytes (encoded (holds (codes "x") 2));
     }
 
 -- G2: each call has one answer, in its place and of its form

@@ -2,6 +2,7 @@
 
 mod call_words;
 mod draft;
+mod fault_rows;
 mod line;
 mod line_word;
 mod lines;

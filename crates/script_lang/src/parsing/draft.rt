@@ -1,7 +1,10 @@
+ghost use Rattle.std.specs.Prelude.{◌≡◌, Some};
+ghost use Rattle.script_lang.specs.Draft.{shorter};
+
 use super::name_table::NameTable;
 use super::start_rows::MAX_ENTRIES;
 use crate::{Line, Mode, RunLine, Script, Series, SessionPlan, Start};
-use folder_disk::MainRead;
+use folder_disk::{MainRead, Planned};
 use prefs_text::Names;
 use script_words::is_reserved;
 use std::alloc::{AllocError, Global};
@@ -19,13 +22,19 @@ pub struct Draft {
     pub(crate) file: Option<MainRead>,
     /// None before a line says it.
     pub(crate) entries: Option<u64>,
+    pub(crate) faults: Series<Planned>,
+    /// None before a line says it.
+    pub(crate) fuse: Option<u64>,
     pub(crate) lines: Series<RunLine>,
+    /// Whether no `node` and no `client` line may follow.
+    pub(crate) is_closed: bool,
 }
 
 impl Draft {
-    ghost use Rattle.std.specs.Prelude.{◌≡◌, ◌↔◌, [], IsTrue, IfOk};
+    ghost use Rattle.std.specs.Prelude.{◌≡◌, ◌↔◌, ◌||◌, [], IsTrue, IfOk};
+    ghost use Rattle.script_lang.specs.declared.plan.mode.Mode.TheVariants.{Nodes};
     ghost use Rattle.script_lang.specs.Draft.{draft_of};
-    ghost use Rattle.script_lang.specs.Faults.{IsTaken, BarsFile, BarsHistory, FollowsNode, FollowsOther};
+    ghost use Rattle.script_lang.specs.Faults.{IsTaken, BarsFile, BarsHistory, FollowsOther, follows_node};
     ghost use Rattle.script_lang.specs.Growth.{HasPlace, draft_with};
     ghost use Rattle.script_lang.specs.Meaning.{script_of};
 
@@ -39,7 +48,10 @@ impl Draft {
             homes: Series::new(alloc),
             file: None,
             entries: None,
+            faults: Series::new(alloc),
+            fuse: None,
             lines: Series::new(alloc),
+            is_closed: false,
         }
     }
 
@@ -66,16 +78,30 @@ impl Draft {
 
     /// Whether a node is declared.
     fn follows_node(&self) -> bool
-        ensures { IsTrue result ↔ FollowsNode self.now }
+        ensures { result ≡ follows_node self.now }
     {
         self.nodes.len() > 0
     }
 
-    /// Whether a client has a line to follow.
+    /// Whether a line of another sort than `node` and `client` stands behind a node.
     pub(crate) fn follows_other(&self) -> bool
         ensures { IsTrue result ↔ FollowsOther self.now }
     {
-        !self.lines.is_empty()
+        self.is_closed
+    }
+
+    /// Whether no call of the folder can be planned to fail.
+    pub(crate) fn bars_faults(&self) -> bool
+        ensures { IsTrue result ↔ self.now.mode ≡ Nodes }
+    {
+        self.mode == Mode::Nodes
+    }
+
+    /// Whether a line of another sort than those that declare bars later `node` and `client` lines.
+    fn closes_now(&self) -> bool
+        ensures { result ≡ (self.now.is_closed || follows_node self.now) }
+    {
+        self.is_closed || self.follows_node()
     }
 
     /// The draft with what one line more says.
@@ -83,6 +109,7 @@ impl Draft {
         requires { HasPlace self line }
         ensures { IfOk result (λ draft. draft ≡ draft_with self line) }
     {
+        let closed = self.closes_now();
         let Draft {
             mode,
             mut nodes,
@@ -90,7 +117,10 @@ impl Draft {
             mut homes,
             mut file,
             mut entries,
+            mut faults,
+            mut fuse,
             mut lines,
+            mut is_closed,
         } = self;
         match line {
             Line::Nothing => {}
@@ -101,7 +131,18 @@ impl Draft {
                 clients = clients.with(alloc, name)?;
                 homes.push(home)?;
             }
-            Line::Run(line) => lines.push(line)?,
+            Line::Fault(planned) => {
+                faults.push(planned)?;
+                is_closed = closed;
+            }
+            Line::Fuse(left) => {
+                fuse = Some(shorter_of(fuse, left));
+                is_closed = closed;
+            }
+            Line::Run(line) => {
+                lines.push(line)?;
+                is_closed = closed;
+            }
         }
         Ok(Draft {
             mode,
@@ -110,7 +151,10 @@ impl Draft {
             homes,
             file,
             entries,
+            faults,
+            fuse,
             lines,
+            is_closed,
         })
     }
 
@@ -119,8 +163,8 @@ impl Draft {
         ensures { IfOk result (λ script. script ≡ script_of self) }
     {
         let plan = SessionPlan {
-            folder_faults: Series::new(alloc),
-            fuse: None,
+            folder_faults: self.faults,
+            fuse: self.fuse,
             deaths: Series::new(alloc),
             lines: self.lines,
             stop: None,
@@ -139,5 +183,15 @@ impl Draft {
             },
             sessions: Series::from_vec(sessions),
         })
+    }
+}
+
+/// Of the fuses the one that is used up first.
+fn shorter_of(other: Option<u64>, left: u64) -> u64
+    ensures { Some result ≡ shorter other left }
+{
+    match other {
+        Some(other) => other.min(left),
+        None => left,
     }
 }

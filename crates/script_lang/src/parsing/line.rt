@@ -1,5 +1,5 @@
 use crate::RunLine;
-use folder_disk::MainRead;
+use folder_disk::{MainRead, Planned};
 use hist_journal::PrefName;
 use store_traits::NodeId;
 
@@ -16,6 +16,10 @@ pub enum Line {
     Node(PrefName),
     /// A client, and its node.
     Client(PrefName, NodeId),
+    /// A call of the folder that is to fail.
+    Fault(Planned),
+    /// After so many calls of the folder each fails.
+    Fuse(u64),
     /// A call, or steps of a client.
     Run(RunLine),
 }

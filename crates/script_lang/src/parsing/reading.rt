@@ -4,6 +4,7 @@ ghost use Rattle.script_words.specs.Words.{texts_at};
 ghost use Rattle.script_lang.specs.Reading.{ReadsLine, ReadsRow, ReadsWords, TestsLine};
 ghost use Rattle.script_lang.specs.Rows.{keyword, IsSkipped};
 
+use super::fault_rows::{read_fault, read_fuse};
 use super::name_rows::{read_client, read_node};
 use super::run_rows::{read_call, read_go};
 use super::start_rows::{read_file, read_history};
@@ -88,13 +89,10 @@ fn read_row(
         LineWord::History => read_history(draft, behind),
         LineWord::Node => read_node(alloc, draft, behind),
         LineWord::Client => read_client(alloc, draft, behind),
+        LineWord::Fault => read_fault(draft, behind),
+        LineWord::Fuse => read_fuse(draft, behind),
         LineWord::Go => read_go(draft, behind),
-        LineWord::Handler
-        | LineWord::Legacy
-        | LineWord::Migrate
-        | LineWord::Fault
-        | LineWord::Fuse
-        | LineWord::Die
-        | LineWord::Stop => Err(ScriptFault::UnknownWord),
+        LineWord::Handler | LineWord::Legacy | LineWord::Migrate | LineWord::Die | LineWord::Stop =>
+            Err(ScriptFault::UnknownWord),
     }
 }

@@ -14,6 +14,7 @@ pub fn untrue_sessions()
     ensures stop_at_the_end { Untrue G1 untrue.stop_at_the_end (example.told example.two_nodes_told) }
     ensures stop_missing { Untrue G1 untrue.stop_missing example.death_and_stop_told }
     ensures raise_left_out { Untrue G1 example.two_nodes (example.told untrue.raise_left_out) }
+    ensures done_again { Untrue G1 untrue.add_unsynced (example.told untrue.done_again) }
 {}
 
 /// The calls are not answered each once, in its place and by an answer of its form.

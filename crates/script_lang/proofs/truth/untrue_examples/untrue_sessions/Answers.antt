@@ -27,4 +27,5 @@ returns c =
       stop_at_the_end = broken G1 untrue.stop_at_the_end (example.told example.two_nodes_told) refl;
       stop_missing = broken G1 untrue.stop_missing example.death_and_stop_told refl;
       raise_left_out = broken G1 example.two_nodes (example.told untrue.raise_left_out) refl;
+      done_again = broken G1 untrue.add_unsynced (example.told untrue.done_again) refl;
     }
