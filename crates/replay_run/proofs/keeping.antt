@@ -2,10 +2,12 @@
 pub mod AnswerLemmas
 pub mod BehindTurns
 pub mod CallKept
+pub mod Failures
 pub mod KeptBehind
+pub mod Living
 pub mod LookKeeps
+pub mod OwnEdits
 pub mod OwnTurns
-pub mod Peaceful
 pub mod ReplacedClient
 pub mod RunKeeps
 pub mod SameClients

@@ -1,7 +1,9 @@
+pub mod FusedFolder
 -- The code makes a run.
 pub mod ClientTurns
 pub mod NamesTold
 pub mod OpeningLemmas
+pub mod ScriptGhosts
 pub mod SessionAsked
 pub mod SessionLines
 pub mod SessionRun

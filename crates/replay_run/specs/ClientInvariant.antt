@@ -1,13 +1,13 @@
 -- What holds of a client between the steps of a run.
-use Rattle.std.specs.Prelude.{◌≡◌, ◌≤◌, ℕ, false, List, length, Some, None, IfSome, MatchOption, slice_get}
+use Rattle.std.specs.Prelude.{◌≡◌, ◌≤◌, ℕ, true, false, All, List, length, Some, None, IfSome, MatchOption, slice_get}
 use Rattle.std.specs.List.{list_any}
 use Rattle.store_traits.specs.declared.ids.CallId.{CallId}
-use Rattle.prefs_text.specs.EntryText.{PrefEntry}
+use Rattle.prefs_text.specs.EntryText.{PrefEntry, PrefKind}
 use Rattle.prefs_text.specs.declared.seen.AnswerLineSeen.{AnswerLineSeen}
 use Rattle.prefs_text.specs.declared.seen.AnswerSeen.{AnswerSeen}
 use Rattle.prefs_text.specs.declared.seen.AnswerSeen.TheVariants as seen
 use Rattle.shelf.specs.declared.store.Store.{Store}
-use Rattle.shelf.specs.Acknowledged.{IsUpdated}
+use Rattle.shelf.specs.Acknowledged.{Carries, IsUpdated}
 use Rattle.shelf.specs.Causes.{HasCause, HasReadCause}
 use Rattle.shelf.specs.Each.{Each}
 use Rattle.shelf.specs.Entries.{is_own, is_update}
@@ -23,6 +23,14 @@ use Rattle.script_lang.specs.declared.plan.run_line.Act.{Act}
 use Rattle.script_lang.specs.declared.plan.run_line.Act.TheVariants as act
 use Rattle.replay_run.specs.RunState.{Client, act_now, act_of, call_at}
 use Rattle.replay_run.specs.Settings.{Change, PrefAsk, PrefCall, PrefRules, PrefWorld, Value}
+
+abbrev pub CarriesAsked : Act → PrefKind → Type 0
+CarriesAsked (act.Update edit) kind = Carries edit kind
+CarriesAsked other kind = ⊥
+
+-- each Edit and each Same of the call carries the edit that it asks for
+abbrev pub CarriesOwn : CallId → Act → List PrefEntry → Type 0
+CarriesOwn call act list = All (λ e. is_own is_update call e ≡ true → CarriesAsked act e.kind) list
 
 module _ (r : PrefRules) {M : Type 0} (s : Store Value M) where
   module _ (list : List PrefEntry) where
@@ -51,8 +59,9 @@ module _ (r : PrefRules) {M : Type 0} (s : Store Value M) where
       pub explained : IsExplained (shown_to client.id list before) line.call act line.answer
       -- what it prints is as late as all that was shown before
       pub late : IfSome (printed line.answer) (λ edition. shown_to client.id list before ≤ edition)
-      -- any other leaves no Edit and no Same
+      -- such an answer leaves no Edit and no Same, and any other those of what the call asks for
       pub none : may_stand line.answer ≡ false → list_any (is_own is_update line.call) list ≡ false
+      pub carried : CarriesOwn line.call act list
 
   -- the call that runs is the one that the client is at, and is at work for what that asks for
   pub record CallInvariant (client : Client) (w : PrefWorld) (call : PrefCall) : Type 0 where

@@ -1,10 +1,9 @@
 -- What one client's step asks for, and what it is made of.
-use Rattle.std.specs.Prelude.{◌≡◌, ℕ, true, [], Some, None, length}
+use Rattle.std.specs.Prelude.{◌≡◌, ℕ, true, Some, None, length}
 use Rattle.store_traits.specs.declared.codec.Codec as codec_trait
 use Rattle.store_traits.specs.declared.ids.CallId.{CallId}
 use Rattle.store_traits.specs.declared.transform.Transform as transform_trait
 use Rattle.folder_disk.specs.declared.folder.Folder as folder_trait
-use Rattle.folder_disk.specs.declared.mem_folder.MemFolder.{MemFolder}
 use Rattle.prefs_proto.specs.declared.prefs_codec.PrefsCodec.{PrefsCodec}
 use Rattle.prefs_text.specs.AnswerView.{line_seen}
 use Rattle.prefs_text.specs.declared.answer_line.AnswerLine.{AnswerLine}
@@ -22,7 +21,7 @@ use Rattle.replay_run.specs.Answering.{behind_turn, reply_told}
 use Rattle.replay_run.specs.ClientInvariant.{CallInvariant}
 use Rattle.replay_run.specs.RunState.{act_now, act_of, call_at, call_now}
 use Rattle.replay_run.specs.SessionView.{EquippedIn, client_seen, rules_in, running_seen, store_in, world_in}
-use Rattle.replay_run.specs.Settings.{Change, PrefAsk, PrefCall, Value}
+use Rattle.replay_run.specs.Settings.{Change, PrefAsk, PrefCall, ScriptFolder, Value}
 
 -- the line tells this reply to a client's call
 pub record AnswersBy (id : CallId) (reply : Reply Value) (line : AnswerLine) : Type 0 where
@@ -34,26 +33,20 @@ pub record AnswersBy (id : CallId) (reply : Reply Value) (line : AnswerLine) : T
 abbrev pub IsAnswered : own.Client → Reply Value → own.Client → Type 0
 IsAnswered old reply new = (call : PrefCall) → call.id ≡ call_at (client_seen old) (length (client_seen old).answered) → behind_turn (client_seen old) call (Ended reply) ≡ Some (client_seen new)
 
-module _ {c : codec_trait.Ghosts PrefsCodec Value} {t : transform_trait.Ghosts Change Value} {f : folder_trait.Ghosts MemFolder} where
+module _ {c : codec_trait.Ghosts PrefsCodec Value} {t : transform_trait.Ghosts Change Value} {f : folder_trait.Ghosts ScriptFolder} where
   -- the call that the client is at may take its turn
-  pub record MayGo (client : own.Client) (shelf : Shelf (PrefsParts MemFolder) PrefsCodec Change MemFolder Value c t f) : Type 0 where
+  pub record MayGo (client : own.Client) (shelf : Shelf (PrefsParts ScriptFolder) PrefsCodec Change ScriptFolder Value c t f) : Type 0 where
     pub node : is_among client.node (store_in shelf).nodes ≡ true
     pub call : (ask : PrefAsk) → act_now (client_seen client) ≡ Some (act_of ask) → CallInvariant (rules_in shelf) (store_in shelf) (client_seen client) (world_in shelf) (call_now (client_seen client) ask)
     pub equipped : EquippedIn shelf client
-    -- no call of the folder is to fail
-    pub planned : (world_in shelf).tally.due.planned ≡ []
-    pub fuses : (world_in shelf).tally.due.fuses ≡ []
 
   -- the client has put aside the call that it is at, which may take its turn
-  pub record MayTurn (client : own.Client) (call : Running) (shelf : Shelf (PrefsParts MemFolder) PrefsCodec Change MemFolder Value c t f) : Type 0 where
+  pub record MayTurn (client : own.Client) (call : Running) (shelf : Shelf (PrefsParts ScriptFolder) PrefsCodec Change ScriptFolder Value c t f) : Type 0 where
     pub idle : client.running ≡ None
     pub node : is_among client.node (store_in shelf).nodes ≡ true
     pub its : CallInvariant (rules_in shelf) (store_in shelf) (client_seen client) (world_in shelf) (running_seen call)
     pub equipped : Equipped c t f (running_seen call).at (shelf_seen shelf)
-    -- no call of the folder is to fail
-    pub planned : (world_in shelf).tally.due.planned ≡ []
-    pub fuses : (world_in shelf).tally.due.fuses ≡ []
 
   -- where a call of another client owns the lock, what is kept for that stays
-  abbrev pub Spares : own.Client → (old new : Shelf (PrefsParts MemFolder) PrefsCodec Change MemFolder Value c t f) → Type 0
+  abbrev pub Spares : own.Client → (old new : Shelf (PrefsParts ScriptFolder) PrefsCodec Change ScriptFolder Value c t f) → Type 0
   Spares client old new = (other : CallId) → (shelf_seen old).owner ≡ Some other → ((place : ℕ) → other ≡ call_at (client_seen client) place → ⊥) → KeepsRoom c t f (shelf_seen old) (shelf_seen new)

@@ -2,6 +2,7 @@ pub mod Answering
 pub mod ClientInvariant
 pub mod ClientSteps
 pub mod EndInvariant
+pub mod Failing
 pub mod Lines
 pub mod NewClients
 pub mod PrefsBasis

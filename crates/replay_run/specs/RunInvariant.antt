@@ -1,8 +1,7 @@
 -- What holds between the steps of a run.
-use Rattle.std.specs.Prelude.{◌≡◌, ◌≤◌, ◌<◌, ◌+◌, ◌++◌, ℕ, Bool, true, false, List, All, Contains, Some, IfSome, slice_get, length, count_by, if◌then◌else◌, is_some}
+use Rattle.std.specs.Prelude.{◌≡◌, ◌<◌, ◌+◌, ◌-◌, ◌^◌, ◌++◌, min, ℕ, Bool, true, false, List, All, Contains, Some, IfSome, slice_get, length, count_by, if◌then◌else◌, is_some}
 use Rattle.std.specs.List.{list_any}
 use Rattle.store_traits.specs.declared.ids.CallId.{CallId}
-use Rattle.folder_disk.specs.Tally.{most_of}
 use Rattle.hist_journal.specs.declared.device.Device.TheVariants.{Folder, Legacy}
 use Rattle.hist_journal.specs.declared.seen.KindSeen.TheVariants.{Cleared, Fault, Migrate, Replace, Restart}
 use Rattle.hist_journal.specs.Folds.{edition_of, raises_of}
@@ -18,6 +17,7 @@ use Rattle.node_core.specs.Reading.{ReadsTruly}
 use Rattle.script_lang.specs.GoodFailures.{IsPlanned}
 use Rattle.value_cache.specs.Truth.{IsOfPrefix}
 use Rattle.replay_run.specs.ClientInvariant.{ClientInvariant}
+use Rattle.replay_run.specs.Failing.{FailsWithin}
 use Rattle.replay_run.specs.RunState.{Client, RunState, call_at}
 use Rattle.replay_run.specs.Settings.{PrefCall, PrefRules, PrefWorld, Value}
 
@@ -57,11 +57,9 @@ module _ (r : PrefRules) {M : Type 0} (s : Store Value M) where
     pub clients : (place : ℕ) (client : Client) → slice_get state.clients place ≡ Some client → ClientInvariant r s place state.shared.world client
     pub entries : All (IsOfCall state.clients) state.shared.world.history
     pub owner : IfSome state.shared.world.owner (HasOwner state.clients)
-    -- there are as many Faults as calls of the folder that failed, and no more than were planned to
-    pub faults : state.shared.world.tally.count ≡ s.folder.count + count_by (λ e. is_fault_of Folder e.kind) state.shared.world.history
-    pub struck : IfSome s.folder.most (λ most. state.shared.world.tally.count ≤ most)
-    -- what is due in the folder bounds the count as it did at the start
-    pub due : most_of s.folder.count state.shared.world.tally.due ≡ s.folder.most
+    -- there are as many Faults as calls of the folder that failed, up to the count's end, and no more than were planned to
+    pub faults : state.shared.world.tally.count ≡ min (s.folder.count + count_by (λ e. is_fault_of Folder e.kind) state.shared.world.history) (2 ^ 64 - 1)
+    pub failing : FailsWithin s state.shared.world.tally
     -- each Death was planned, with its step
     pub deaths : Each (λ before e. is_death e.kind ≡ true → IsPlanned s.deaths before e.who) state.shared.world.history
     pub left : All (Contains s.deaths) state.shared.world.deaths

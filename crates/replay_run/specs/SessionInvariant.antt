@@ -1,5 +1,5 @@
 -- What holds of a session between the steps of its clients.
-use Rattle.std.specs.Prelude.{◌≡◌, ◌≤◌, ℕ, true, All, Some, map, vec_len}
+use Rattle.std.specs.Prelude.{◌≡◌, ◌≤◌, ℕ, true, All, map, vec_len}
 use Rattle.hist_journal.specs.Folds.{raises_of}
 use Rattle.shelf.specs.AddsNode.{is_among}
 use Rattle.shelf.specs.ShelfSeen.{shelf_seen}
@@ -9,8 +9,6 @@ use Rattle.replay_run.specs.SessionView.{EquippedIn, rules_in, state_in, store_i
 
 pub record SessionInvariant (session : RunningSession) : Type 0 where
   pub state : RunInvariant (rules_in session.shelf) (store_in session.shelf) (state_in session)
-  -- no call of the folder is to fail
-  pub spare : (store_in session.shelf).folder.most ≡ Some 0
   pub number : session.word ≡ raises_of (shelf_seen session.shelf).list
   pub nodes : All (λ client. is_among client.node (store_in session.shelf).nodes ≡ true) session.clients.items
   pub equipped : All (λ client. EquippedIn session.shelf client) session.clients.items

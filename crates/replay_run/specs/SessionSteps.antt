@@ -4,7 +4,7 @@ use Rattle.script_lang.specs.declared.plan.run_line.RunLine.{RunLine}
 use Rattle.script_lang.specs.declared.plan.script.Script.{Script}
 use Rattle.script_lang.specs.declared.plan.session_plan.SessionPlan.{SessionPlan}
 use Rattle.script_lang.specs.Chronicle.{Basis, first_beginning, store_of, tally_of}
-use Rattle.script_lang.specs.Keeps.{IsBuiltAct, IsPlain}
+use Rattle.script_lang.specs.Keeps.{IsBuiltAct}
 use Rattle.script_lang.specs.TranscriptView.{SessionSeen}
 use Rattle.replay_run.specs.declared.running_session.RunningSession.{RunningSession}
 use Rattle.replay_run.specs.PrefsBasis.{prefs_basis}
@@ -13,14 +13,14 @@ use Rattle.replay_run.specs.SessionView.{state_in, store_in}
 use Rattle.replay_run.specs.Settings.{PrefStore}
 use Rattle.replay_run.specs.Start.{start_of}
 
--- in the script's first session in which nothing is planned to fail, and whose base is this store's, this is the store
-abbrev pub IsStoreOf : Basis → Script → PrefStore → Type 0
-IsStoreOf b script store = (plan : SessionPlan) (told : SessionSeen) → IsPlain plan → told.base ≡ store.base → store ≡ store_of b script (first_beginning script) plan told
+-- in the script's first session, by this plan, where its base is this store's, this is the store
+abbrev pub IsStoreOf : Basis → Script → SessionPlan → PrefStore → Type 0
+IsStoreOf b script plan store = (told : SessionSeen) → told.base ≡ store.base → store ≡ store_of b script (first_beginning script) plan told
 
--- the first session of the script starts, as a plan says in which nothing is to fail
-pub record IsOpened (script : Script) (session : RunningSession) : Type 0 where
-  pub start : (plan : SessionPlan) → IsPlain plan → state_in session ≡ start_of [] (tally_of (store_in session.shelf).folder.count plan) (store_in session.shelf) script.homes
-  pub store : IsStoreOf prefs_basis script (store_in session.shelf)
+-- the first session of the script starts, by this plan
+pub record IsOpened (script : Script) (plan : SessionPlan) (session : RunningSession) : Type 0 where
+  pub start : state_in session ≡ start_of [] (tally_of (store_in session.shelf).folder.count plan) (store_in session.shelf) script.homes
+  pub store : IsStoreOf prefs_basis script plan (store_in session.shelf)
   pub keeps : SessionInvariant session
 
 -- the line asks one of so many clients for something that is built

@@ -3,7 +3,6 @@ use Rattle.std.specs.Prelude.{map, IfSome, option_map}
 use Rattle.store_traits.specs.declared.codec.Codec as codec_trait
 use Rattle.store_traits.specs.declared.transform.Transform as transform_trait
 use Rattle.folder_disk.specs.declared.folder.Folder as folder_trait
-use Rattle.folder_disk.specs.declared.mem_folder.MemFolder.{MemFolder}
 use Rattle.prefs_proto.specs.declared.prefs_codec.PrefsCodec.{PrefsCodec}
 use Rattle.prefs_text.specs.AnswerView.{line_seen}
 use Rattle.script_lang.specs.declared.plan.run_line.Act.{Act}
@@ -22,7 +21,7 @@ use Rattle.replay_run.specs.declared.running_session.RunningSession.{RunningSess
 use Rattle.replay_run.specs.declared.task.Task.{Task}
 use Rattle.replay_run.specs.declared.task.Task.TheVariants as task
 use Rattle.replay_run.specs.RunState.{Client, NodeView, RunState}
-use Rattle.replay_run.specs.Settings.{Change, PrefCall, PrefRules, PrefStore, PrefWorld, Value}
+use Rattle.replay_run.specs.Settings.{Change, PrefCall, PrefRules, PrefStore, PrefWorld, ScriptFolder, Value}
 
 abbrev pub running_seen : Running → PrefCall
 running_seen (running.Update call) = call_seen call.origin (state_seen call.state)
@@ -44,22 +43,22 @@ client_seen client =
       answered = map line_seen client.answered.items;
     }
 
-module _ {c : codec_trait.Ghosts PrefsCodec Value} {t : transform_trait.Ghosts Change Value} {f : folder_trait.Ghosts MemFolder} where
-  abbrev pub rules_in : Shelf (PrefsParts MemFolder) PrefsCodec Change MemFolder Value c t f → PrefRules
+module _ {c : codec_trait.Ghosts PrefsCodec Value} {t : transform_trait.Ghosts Change Value} {f : folder_trait.Ghosts ScriptFolder} where
+  abbrev pub rules_in : Shelf (PrefsParts ScriptFolder) PrefsCodec Change ScriptFolder Value c t f → PrefRules
   rules_in shelf = rules_seen c t f (shelf_seen shelf)
 
-  abbrev pub store_in : Shelf (PrefsParts MemFolder) PrefsCodec Change MemFolder Value c t f → PrefStore
+  abbrev pub store_in : Shelf (PrefsParts ScriptFolder) PrefsCodec Change ScriptFolder Value c t f → PrefStore
   store_in shelf = (shelf_seen shelf).store
 
-  abbrev pub world_in : Shelf (PrefsParts MemFolder) PrefsCodec Change MemFolder Value c t f → PrefWorld
+  abbrev pub world_in : Shelf (PrefsParts ScriptFolder) PrefsCodec Change ScriptFolder Value c t f → PrefWorld
   world_in shelf = world_seen f (shelf_seen shelf)
 
   -- what a step of a client finds, whose node has this cache
-  abbrev pub view_in : Shelf (PrefsParts MemFolder) PrefsCodec Change MemFolder Value c t f → Cache Value → NodeView
+  abbrev pub view_in : Shelf (PrefsParts ScriptFolder) PrefsCodec Change ScriptFolder Value c t f → Cache Value → NodeView
   view_in shelf cache = record { world = world_in shelf; kept = kept_seen cache }
 
   -- there is room for what the call that runs is still to write
-  abbrev pub EquippedIn : Shelf (PrefsParts MemFolder) PrefsCodec Change MemFolder Value c t f → own.Client → Type 0
+  abbrev pub EquippedIn : Shelf (PrefsParts ScriptFolder) PrefsCodec Change ScriptFolder Value c t f → own.Client → Type 0
   EquippedIn shelf client = IfSome client.running (λ call. Equipped c t f (running_seen call).at (shelf_seen shelf))
 
 abbrev pub state_in : RunningSession → RunState

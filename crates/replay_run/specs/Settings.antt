@@ -1,5 +1,7 @@
 -- What the calls of a script are about: maps of settings, and edits of them.
 use Rattle.std.specs.Prelude.{List}
+use Rattle.folder_disk.specs.declared.fuse_folder.FuseFolder.{FuseFolder}
+use Rattle.folder_disk.specs.declared.mem_folder.MemFolder.{MemFolder}
 use Rattle.prefs_edit.specs.declared.edit_step.EditStep.{EditStep}
 use Rattle.prefs_model.specs.declared.pref_pair.PrefPair.{PrefPair}
 use Rattle.shelf.specs.declared.store.Store.{Store}
@@ -16,6 +18,10 @@ Change = List EditStep
 
 abbrev pub PrefCall : Type 0
 PrefCall = Call Value Change
+
+-- the folder of a script: in memory, with a fuse
+abbrev pub ScriptFolder : Type 0
+ScriptFolder = FuseFolder MemFolder
 
 -- what an update asks for, or a read
 abbrev pub PrefAsk : Type 0

@@ -17,9 +17,9 @@ new_client before place node = record { id = record { 0 = place }; node = node; 
 abbrev pub new_clients : (before : List Asked) → List NodeId → List Client
 new_clients before homes = map (λ placed. new_client before placed.0 placed.1) (enumerate_from 0 homes)
 
--- the world in which a session of the store starts: the folder tells what it holds, which is main alone, the tally tells what is to fail, and nothing has happened yet
+-- the world in which a session of the store starts: the folder tells what it holds and spares it where a call fails, it holds main alone, the tally tells what is to fail, and nothing has happened yet
 abbrev pub world_of : Tally → {M : Type 0} → Store Value M → PrefWorld
-world_of tally s = record { told = true; folder = fresh_contents s.main; sections = s.sections; owner = None; history = []; deaths = s.deaths; version = 0; tally = tally }
+world_of tally s = record { told = true; spares = true; folder = fresh_contents s.main; sections = s.sections; owner = None; history = []; deaths = s.deaths; version = 0; tally = tally }
 
 -- the state in which it starts with clients of these nodes; no cache keeps anything
 abbrev pub start_of : (before : List Asked) → Tally → {M : Type 0} → Store Value M → List NodeId → RunState

@@ -5,15 +5,15 @@ ghost use Rattle.replay_run.specs.SessionView.{client_seen};
 use crate::PrefsParts;
 use crate::running::Running;
 use crate::task::Task;
-use folder_disk::MemFolder;
+use folder_disk::{FuseFolder, MemFolder};
 use prefs_text::AnswerLine;
 use std::alloc::{AllocError, Global};
 use store_traits::{ClientId, NodeId};
 
 mod going;
 
-/// The parts of the store that a script is run on.
-pub(crate) type Settings = PrefsParts<MemFolder>;
+/// The parts of the store that a script is run on: its folder is in memory, and has a fuse.
+pub(crate) type Settings = PrefsParts<FuseFolder<MemFolder>>;
 
 /// A client of a session: what it is asked for, and how far it is with that.
 #[derive(Drop)]

@@ -34,7 +34,7 @@ fn play(alloc: Global, script: &Script, plan: &SessionPlan) -> Result<Session, A
     requires plan { script.now.sessions ≡ plan.now ∷ [] }
     ensures { IfOk result (λ session. ∥ IsPlayedWell prefs_basis script.now plan.now (session_seen session) ∥₁) }
 {
-    let mut session = RunningSession::open(alloc, script)?;
+    let mut session = RunningSession::open(alloc, script, plan)?;
     session.follow(alloc, plan.lines.as_slice())?;
     session.finish(alloc)?;
     session.close(alloc)

@@ -20,10 +20,12 @@ use Rattle.script_lang.specs.declared.plan.session_plan.SessionPlan.{SessionPlan
 use Rattle.script_lang.specs.declared.transcripts.transcript.Transcript.{Transcript}
 use Rattle.script_lang.specs.Chronicle.{Chapter, chapter_of, first_beginning, store_of, tally_of}
 use Rattle.script_lang.specs.Good.{file_seen}
-use Rattle.script_lang.specs.Keeps.{IsPlain, Keeps, KeepsPlan}
+use Rattle.script_lang.specs.Keeps.{Keeps, KeepsPlan}
+use Rattle.script_lang.specs.SessionPlans.{IsWhole}
 use Rattle.script_lang.specs.TranscriptView.{SessionSeen}
 use Rattle.script_lang.proofs.GoodChapters.{one_chapter}
 use Rattle.step_table.specs.Calls.{Read, Update}
+use Rattle.replay_run.specs.Failing.{FailsWithin}
 use Rattle.replay_run.specs.Lines.{Asks, FollowsAll}
 use Rattle.replay_run.specs.PrefsBasis.{prefs_basis}
 use Rattle.replay_run.specs.Rounds.{EndsBy, Finishes, IsOver, Round, StepsEach}
@@ -38,7 +40,8 @@ use Rattle.replay_run.proofs.exists.ChainExists.{CanFollow, lines_is, rounds_is}
 use Rattle.replay_run.proofs.exists.ServedSteps.{RunsServed, still_served}
 use Rattle.replay_run.proofs.exists.StepExists.{IsOfAsk, client_steps}
 use Rattle.replay_run.proofs.exists.TurnExists.{MustBe, base_is}
-use Rattle.replay_run.proofs.keeping.Peaceful.{is_peaceful}
+use Rattle.replay_run.proofs.keeping.Failures.{plan_fails_within}
+use Rattle.replay_run.proofs.keeping.Living.{is_living}
 use Rattle.replay_run.proofs.keeping.SameClients.{still_that}
 use Rattle.replay_run.proofs.keeping.StepsKeep.{homes_declared, new_from}
 use Rattle.replay_run.proofs.kept.PlansKept.{ReadsValues}
@@ -61,7 +64,7 @@ pub record IsServed (client : Client) : Type 0 where
   pub asks : All IsOfAsk client.asked
   pub runs : RunsServed client
 
-module _ {M : Type 0} (r : PrefRules) (s : Store Value M) (values : ReadsValues r IsMap AreSteps s) (unplanned : s.deaths ≡ []) (most : s.folder.most ≡ Some 0) (unmigrated : s.migrations ≡ []) (unreplaced : s.handler ≡ None) (low : s.limits.file < 2 ^ 64 - 1) where
+module _ {M : Type 0} (r : PrefRules) (s : Store Value M) (values : ReadsValues r IsMap AreSteps s) (unplanned : s.deaths ≡ []) (unmigrated : s.migrations ≡ []) (unreplaced : s.handler ≡ None) (low : s.limits.file < 2 ^ 64 - 1) where
   record Kept (state : RunState) : Type 0 where
     pub main : KeptState r s state
     pub clients : (place : ℕ) (client : Client) → slice_get state.clients place ≡ Some client → IsServed client
@@ -75,12 +78,11 @@ module _ {M : Type 0} (r : PrefRules) (s : Store Value M) (values : ReadsValues 
     where
       by_cache : (client : Client) → slice_get state.clients place ≡ Some client → ⊥
       by_cache client found =
-          let peace = is_peaceful s unplanned most r state kept.main.run in
-          let count = peace.count in
+          let living = is_living s unplanned r state kept.main.run in
           let served = kept.clients place client found in
           let home = all_found (λ (client : Client). client.node.0 < length state.shared.caches) state.clients place client found kept.main.run.homes in
           elim (slice_get_cases state.shared.caches client.node.0).1 [
-            | inl cache ↦ client_steps r s unmigrated unreplaced low state peace.alive peace.deaths (λ call. rw (peace.planned, peace.fuses) refl) (omega (arith, count)) place client found cache.0 cache.2
+            | inl cache ↦ client_steps r s unmigrated unreplaced low state living.alive living.deaths kept.main.run.failing.count place client found cache.0 cache.2
                 (act_now client) refl (now_asked client (act_now client) refl served.asks) served.runs none
             | inr past ↦ (let less = past.0 in absurd (omega (arith, less, home)))
           ]
@@ -91,7 +93,7 @@ module _ {M : Type 0} (r : PrefRules) (s : Store Value M) (values : ReadsValues 
       let view : NodeView = record { world = old.shared.world; kept = it.kept } in
       let view_after : NodeView = record { world = new.shared.world; kept = it.kept_after } in
       record {
-        main = steps_keep_main r s values unplanned most place old new it kept.main;
+        main = steps_keep_main r s values unplanned place old new it kept.main;
         clients =
             λ other c is.
             elim (found_then old.clients place other it.client_after c (rw it.now at is)) [
@@ -122,15 +124,15 @@ module _ {M : Type 0} (r : PrefRules) (s : Store Value M) (values : ReadsValues 
   unfolding StepsEach
   so_far place zero start now new it kept far = rw it (let same : place + 0 ≡ place = omega arith in rw same far)
   so_far place (suc clients) start now new it kept far =
-      let one = round_goes_on r s unplanned most start place now it.0 it.1 kept.main.run kept.main.told far in
+      let one = round_goes_on r s unplanned start place now it.0 it.1 kept.main.run far in
       let same : place + 1 + clients ≡ place + suc clients = omega arith in
       subst (λ n. RoundSoFar s.limits.file start n new) same (so_far (place + 1) clients start it.0 new it.2 (step_keeps place now it.0 it.1 kept) one)
 
   falls : (old new : RunState) → Kept old → Round r s old new → IsOver old ⊎ (work_left s.limits.file new < work_left s.limits.file old)
   falls old new kept round =
       let same : 0 + length old.clients ≡ length old.clients = omega arith in
-      round_falls r s unplanned most old new kept.main.run
-      (subst (λ n. RoundSoFar s.limits.file old n new) same (so_far 0 (length old.clients) old old new round kept (round_begins r s unplanned most old)))
+      round_falls r s unplanned old new kept.main.run
+      (subst (λ n. RoundSoFar s.limits.file old n new) same (so_far 0 (length old.clients) old old new round kept (round_begins r s unplanned old)))
 
   -- the end of a session
   pub record Ended (lines : List RunLine) (start end : RunState) : Type 0 where
@@ -150,8 +152,8 @@ module _ (script : Script) (kept : Keeps script) (typed : IsTyped script) where
   abbrev plan : SessionPlan
   plan = kept.built.plan
 
-  plain : IsPlain plan
-  plain = kept.built.plain
+  whole : IsWhole plan
+  whole = kept.built.whole
 
   -- what is told of the session, where main reads as this base and a run ends in this state
   abbrev told_of : BaseSeen Value → RunState → SessionSeen
@@ -184,14 +186,14 @@ module _ (script : Script) (kept : Keeps script) (typed : IsTyped script) where
       record { declared = omega (arith, declared, homes, one_each); built = kept.built.acts place d within; typed = in_first (λ p. All (λ (line : RunLine). IsTypedAct line.act) p.lines) typed place d within }
 
   module _ (base : BaseSeen Value) (reads : HasItsBase prefs_basis.rules.reads prefs_basis.rules.absent (store base)) where
-    most : (store base).folder.most ≡ Some 0
-    most = rw plain refl
+    within : FailsWithin (store base) (tally_of 0 plan)
+    within = plan_fails_within (store base) plan (omega arith) refl (in_first (KeepsPlan script) kept.sessions.plans).faults
 
     kept_start : KeptState prefs_basis.rules (store base) (start base)
-    kept_start = start_keeps_main prefs_basis.rules (store base) reads most [] (tally_of 0 plan) script.homes refl refl (homes_declared script kept.homes.declared)
+    kept_start = start_keeps_main prefs_basis.rules (store base) reads [] (tally_of 0 plan) script.homes refl within (homes_declared script kept.homes.declared)
 
-    ended_is : MustBe (Ended prefs_basis.rules (store base) (values_of_settings (store base) omega arith) (ap (λ (p : SessionPlan). p.deaths) plain) most refl (rw kept.built.unreplaced refl) (omega arith) plan.lines (start base))
-    ended_is = session_is prefs_basis.rules (store base) (values_of_settings (store base) omega arith) (ap (λ (p : SessionPlan). p.deaths) plain) most refl (rw kept.built.unreplaced refl) (omega arith) plan.lines (start base) (can_follow base) kept_start
+    ended_is : MustBe (Ended prefs_basis.rules (store base) (values_of_settings (store base) omega arith) whole.deaths refl (rw kept.built.unreplaced refl) (omega arith) plan.lines (start base))
+    ended_is = session_is prefs_basis.rules (store base) (values_of_settings (store base) omega arith) whole.deaths refl (rw kept.built.unreplaced refl) (omega arith) plan.lines (start base) (can_follow base) kept_start
         (λ place client found. rw (new_from [] 0 script.homes place client found).is (record { asks = All-nil IsOfAsk; runs = tt }))
 
   -- it cannot be that there is no run
@@ -209,12 +211,12 @@ module _ (script : Script) (kept : Keeps script) (typed : IsTyped script) where
         between = it.between;
         follows = it.follows;
         end = end;
-        ends = subst (λ stop. EndsBy prefs_basis.rules (store base) stop it.between end) (sym (ap (λ (p : SessionPlan). p.stop) plain)) it.finishes;
+        ends = subst (λ stop. EndsBy prefs_basis.rules (store base) stop it.between end) (sym whole.stop) it.finishes;
         tells = record { answers = refl; entries = refl; file = refl };
       } in
       none transcript
       (record {
         names = refl;
         sessions = sym (ap (λ (xs : List SessionPlan). length xs) kept.built.only);
-        played = subst (λ chapters. Each (IsPlayed prefs_basis script) chapters) (sym (one_chapter prefs_basis script plan told transcript refl kept.built.only (ap (λ (p : SessionPlan). p.stop) plain) refl)) (each_walked (IsPlayed prefs_basis script) (chapter told ∷ []) (played, tt));
+        played = subst (λ chapters. Each (IsPlayed prefs_basis script) chapters) (sym (one_chapter prefs_basis script plan told transcript refl kept.built.only whole.stop refl)) (each_walked (IsPlayed prefs_basis script) (chapter told ∷ []) (played, tt));
       })))

@@ -1,10 +1,8 @@
 -- A client that has an update or a read to do has a step.
-use Rattle.std.proofs.Common.{◌≡◌, ◌<◌, ◌-◌, ◌^◌, ℕ, true, false, [], Option, Some, None, IfSome, slice_get, slice_set, refl, sym, subst}
+use Rattle.std.proofs.Common.{◌≡◌, ◌<◌, ◌≤◌, ◌-◌, ◌^◌, ℕ, true, false, [], Option, Some, None, IfSome, slice_get, slice_set, refl, sym, subst}
 use Rattle.std.specs.List.{list_any}
 use Rattle.store_traits.specs.declared.update_error.UpdateError.{UpdateError}
 use Rattle.store_traits.specs.declared.update_error.UpdateError.TheVariants as error
-use Rattle.folder_disk.specs.declared.call.FolderCall.{FolderCall}
-use Rattle.folder_disk.specs.Due as plan
 use Rattle.prefs_text.specs.EntryText.{PrefEntry}
 use Rattle.prefs_text.specs.declared.seen.AnswerSeen.{AnswerSeen}
 use Rattle.prefs_text.specs.declared.seen.AnswerSeen.TheVariants as seen
@@ -14,8 +12,7 @@ use Rattle.shelf.proofs.Bools.{never}
 use Rattle.shelf.proofs.DeathLemmas.{has_not_died}
 use Rattle.step_table.specs.Caching.{found as found_in, published_by}
 use Rattle.step_table.specs.Calls.{Failed, Gave, Update, Updated}
-use Rattle.step_table.specs.Effects.{Effect, Ends, Faulted, FolderUse, Goes, Next, SparesFolder, Waits, call_by, gave_by}
-use Rattle.step_table.proofs.Chosen.{is_faulted}
+use Rattle.step_table.specs.Effects.{Effect, Ends, Goes, Next, SparesFolder, Waits, call_by, gave_by}
 use Rattle.step_table.proofs.ChosenRows.{is_served}
 use Rattle.step_table.proofs.EffectsMade.{now_by}
 use Rattle.script_lang.specs.declared.plan.run_line.Act.{Act}
@@ -47,10 +44,6 @@ behind client call (Ends (Updated edition)) is = (client_answered client call.id
 behind client call (Ends (Gave edition value)) is = (client_answered client call.id (seen.Read edition value), refl)
 behind client call (Ends (Failed err)) is = let told = told_error err is in (client_answered client call.id told.0, rw told.1 refl)
 
-spared_by : (used : FolderUse) (old new : PrefWorld) → is_faulted used ≡ false → SparesFolder used old new
-spared_by (Faulted request) old new well = never (sym well)
-spared_by other old new well = tt
-
 -- what a call asks for
 abbrev pub IsOfAsk : Act → Type 0
 IsOfAsk (act.Update edit) = Unit {0}
@@ -61,7 +54,7 @@ module _ (r : PrefRules) {M : Type 0} (s : Store Value M) (none : s.migrations �
   abbrev w : PrefWorld
   w = state.shared.world
 
-  module _ (alive : list_any (λ (e : PrefEntry). is_death e.kind) w.history ≡ false) (unplanned : w.deaths ≡ []) (calm : (asked : FolderCall) → plan.fails asked w.tally.due ≡ false) (few : w.tally.count < 2 ^ 64 - 1)
+  module _ (alive : list_any (λ (e : PrefEntry). is_death e.kind) w.history ≡ false) (unplanned : w.deaths ≡ []) (few : w.tally.count ≤ 2 ^ 64 - 1)
       (place : ℕ) (client : Client) (found : slice_get state.clients place ≡ Some client) (kept : Option PrefCached) (cache : slice_get state.shared.caches client.node.0 ≡ Some kept) where
     abbrev view : NodeView
     view = record { world = w; kept = kept }
@@ -75,11 +68,11 @@ module _ (r : PrefRules) {M : Type 0} (s : Store Value M) (none : s.migrations �
 
     turned : (call : PrefCall) → is_served call.at ≡ true → ((after : Client) (view_after : NodeView) → TakesTurn r s call client view after view_after → ClientSteps r s client view after view_after) → MustBe (StepsAt r s place state)
     turned call served is nothing =
-        turn_is r s w none unreplaced low call served calm few
+        turn_is r s w none unreplaced low call served few
         (has_not_died call.id.node (begun w call).since w.history alive)
         (rw unplanned refl)
         (λ e turns.
-        let next = behind client (call_by e (begun w call)) e.next turns.fine.0 in
+        let next = behind client (call_by e (begun w call)) e.next turns.answers in
         let now : PrefWorld = now_by w (begun w call) e in
         let view_after : NodeView = record { world = now; kept = kept_behind kept (published_by call.at (gave_by e.next) now) } in
         let turn : TakesTurn r s call client view next.0 view_after =
@@ -87,7 +80,7 @@ module _ (r : PrefRules) {M : Type 0} (s : Store Value M) (none : s.migrations �
           call_after = call_by e (begun w call);
           gave = gave_by e.next;
           turn = turns.turn;
-          spares = subst (λ (x : Effect Value Change). SparesFolder x.folder w now) (sym turns.same) (spared_by e.folder w now turns.fine.1);
+          spares = subst (λ (x : Effect Value Change). SparesFolder x.folder w now) (sym turns.same) turns.spares;
           now = next.1;
           kept = refl;
         } in

@@ -34,6 +34,7 @@ use Rattle.script_lang.specs.declared.plan.run_line.Act.TheVariants as act
 use Rattle.replay_run.specs.ClientInvariant.{IsExplained, IsTrueAnswer}
 use Rattle.replay_run.specs.RunState.{Client, call_at}
 use Rattle.replay_run.specs.Settings.{Change, PrefRules, Value}
+use Rattle.replay_run.proofs.keeping.OwnEdits.{carries_more}
 use Rattle.replay_run.proofs.lists.JoinedLemmas.{all_each}
 use Rattle.replay_run.proofs.lists.StandLemmas.{found_stands}
 
@@ -186,6 +187,7 @@ module _ (r : PrefRules) {M : Type 0} (s : Store Value M) where
           explained = rw same (explained_more list (shown_to client.id list before) line.call more over it.act line.answer it.explained);
           late = rw same it.late;
           none = λ out. meanwhile.own is_update line.call list more (none_up_to line.call more over) ∙ it.none out;
+          carried = carries_more line.call it.act list more (none_up_to line.call more over) it.carried;
         }
 
     -- the answers stay true where no entry more is of a call up to them
@@ -210,4 +212,5 @@ module _ (r : PrefRules) {M : Type 0} (s : Store Value M) where
         explained = rw same_id here.explained;
         late = rw same_id here.late;
         none = here.none;
+        carried = here.carried;
       }

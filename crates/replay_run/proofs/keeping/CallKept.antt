@@ -132,8 +132,7 @@ module _ (r : PrefRules) {M : Type 0} (s : Store Value M) (state : RunState) (pl
           entries = entries_on state.clients place client now found (λ nth. refl) omega arith state.shared.world.history keeps.entries;
           owner = IfSome_then state.shared.world.owner keeps.owner (owner_stays state.clients place client now found refl);
           faults = keeps.faults;
-          struck = keeps.struck;
-          due = keeps.due;
+          failing = keeps.failing;
           deaths = keeps.deaths;
           left = keeps.left;
           built = keeps.built;

@@ -14,11 +14,12 @@ use Rattle.value_cache.specs.Truth.{IsOfPrefix}
 use Rattle.replay_run.specs.Answering.{behind_look}
 use Rattle.replay_run.specs.ClientInvariant.{ClientInvariant, IsTrueAnswer}
 use Rattle.replay_run.specs.RunInvariant.{ReadsWell, RunInvariant, begun}
-use Rattle.replay_run.specs.RunState.{Client, RunState, act_now, new_call}
+use Rattle.replay_run.specs.RunState.{Client, RunState, act_now, call_at, new_call}
 use Rattle.replay_run.specs.Settings.{PrefCached, PrefRules, PrefWorld, Value}
 use Rattle.replay_run.proofs.keeping.AnswerLemmas.{answers_same, shown_within}
 use Rattle.replay_run.proofs.keeping.BehindTurns.{IsSameClient, line_of, look_same}
 use Rattle.replay_run.proofs.keeping.CallKept.{new_knows, none_own}
+use Rattle.replay_run.proofs.keeping.OwnEdits.{none_carry}
 use Rattle.replay_run.proofs.keeping.ReplacedClient.{entries_on, homes_on, owner_apart}
 use Rattle.replay_run.proofs.lists.OptionLemmas.{nothing, one_of_it}
 use Rattle.replay_run.proofs.lists.SetLemmas.{found_then}
@@ -53,6 +54,7 @@ module _ (r : PrefRules) {M : Type 0} (s : Store Value M) (state : RunState) (pl
   true_found : (one : PrefCached) → found kept w.version ≡ Some one → IsTrueAnswer r s w.history client client.answered (line_of (new_call client Read).id (seen.Read one.edition one.value))
   true_found one is =
       let it = of_found one (found_is_kept kept w.version one is).0 in
+      let none = none_own state.clients place client at_place mine.id idle is_update w.history keeps.entries in
       record {
         act = act.Read;
         asked = asked;
@@ -60,7 +62,8 @@ module _ (r : PrefRules) {M : Type 0} (s : Store Value M) (state : RunState) (pl
         poster = refl;
         explained = record { front = it.front; back = it.back; is = it.is; holds = record { reached = sym it.of.edition; value = it.of.value } };
         late = rw (← found_late one is) (shown_within r s client w.history client.answered mine.answers);
-        none = λ out. none_own state.clients place client at_place mine.id idle is_update w.history keeps.entries;
+        none = λ out. none;
+        carried = none_carry (call_at client (length client.answered)) act.Read w.history none;
       }
 
   client_behind : (o : Option PrefCached) → found kept w.version ≡ o → ClientInvariant r s place w (behind_look client o)
@@ -105,8 +108,7 @@ module _ (r : PrefRules) {M : Type 0} (s : Store Value M) (state : RunState) (pl
               let same_client : it.client ≡ client = one_of_it (slice_get state.clients place) it.client client (rw (← here) it.found) at_place in
               nothing it.call (sym idle ∙ (ap (λ (c : Client). c.running) (sym same_client) ∙ it.runs))));
           faults = keeps.faults;
-          struck = keeps.struck;
-          due = keeps.due;
+          failing = keeps.failing;
           deaths = keeps.deaths;
           left = keeps.left;
           built = keeps.built;

@@ -1,19 +1,22 @@
--- What a turn of a call leaves in a peaceful world.
-use Rattle.std.proofs.Common.{◌≡◌, ◌∙◌, ℕ, Bool, true, false, List, [], ◌++◌, Some, IfSome, IsTrue, append-nil, count_by, option_map, unwrap_or, refl, sym, ap, subst}
+-- What a turn of a call leaves where no node dies.
+use Rattle.std.proofs.Common.{◌≡◌, ◌∙◌, ℕ, Bool, true, false, List, [], ◌∷◌, ◌++◌, Some, IfSome, count_by, option_map, unwrap_or, refl, sym, ap, subst}
 use Rattle.std.specs.List.{list_any}
+use Rattle.std.proofs.lemmas.Bool.{and_right}
+use Rattle.std.proofs.lemmas.List.{map-append}
 use Rattle.store_traits.specs.declared.ids.CallId.{CallId}
-use Rattle.folder_disk.specs.Tally.{most_of}
+use Rattle.hist_journal.specs.declared.device.Device.TheVariants.{Folder}
+use Rattle.hist_journal.specs.declared.seen.KindSeen.TheVariants.{Fault}
 use Rattle.hist_journal.specs.Folds.{edition_of}
 use Rattle.prefs_text.specs.EntryText.{PrefEntry, PrefKind}
 use Rattle.prefs_text.specs.declared.seen.AnswerSeen.{AnswerSeen}
 use Rattle.shelf.specs.declared.store.Store.{Store}
-use Rattle.shelf.specs.Entries.{is_own, is_update, with_entries}
-use Rattle.shelf.proofs.Bools.{never}
+use Rattle.shelf.specs.Entries.{is_own, is_update}
+use Rattle.shelf.proofs.Bools.{never, none_in_both, one_more}
 use Rattle.shelf.proofs.DeathLemmas.{has_not_died}
 use Rattle.step_table.specs.declared.progress.Progress.{Progress}
 use Rattle.step_table.specs.declared.progress.Progress.TheVariants.{Ended}
 use Rattle.step_table.specs.Calls.{At, Changed, Kept, Reply, is_gone}
-use Rattle.step_table.specs.Effects.{Effect, Next, Ends, gave_by}
+use Rattle.step_table.specs.Effects.{Effect, FolderUse, Faulted, Next, Ends, all_kinds, gave_by}
 use Rattle.step_table.specs.Rows.{Row, finishes, raises, renames, acknowledges, gives, refuses, sync_fails}
 use Rattle.step_table.specs.Turn.{AllowedBy, RowOf, Turn, dies_now, has_died_by}
 use Rattle.step_table.specs.World.{Turned, begin}
@@ -26,13 +29,17 @@ use Rattle.script_lang.specs.Shown.{printed}
 use Rattle.replay_run.specs.Answering.{reply_told}
 use Rattle.replay_run.specs.RunInvariant.{is_later_work}
 use Rattle.replay_run.specs.Settings.{Change, PrefCall, PrefRules, PrefWorld, Value}
-use Rattle.replay_run.proofs.keeping.Peaceful.{NoneFails, Peaceful, dies, is_folder_fault, none_fails}
+use Rattle.replay_run.proofs.keeping.Living.{Living, dies, is_folder_fault}
 
 abbrev pub comes_later : PrefEntry → Bool
 comes_later e = is_later_work e.kind
 
--- an effect strikes nobody dead, and adds no Death, no Fault and nothing that is not built
-record IsPlainEffect (call : CallId) (e : Effect Value Change) : Type 0 where
+-- the kinds of the entries that a turn of this effect adds, with the Fault of a folder that failed
+abbrev pub kinds_of : Turned Value Change → Effect Value Change → List PrefKind
+kinds_of t e = all_kinds e.folder t.world_after.tally.count e.kinds
+
+-- an effect strikes nobody dead, and its row adds no Death, no Fault and nothing that is not built
+pub record IsPlainEffect (call : CallId) (e : Effect Value Change) : Type 0 where
   pub spares : e.dies ≡ false
   pub alive : list_any dies (entries_of call e.kinds) ≡ false
   pub faults : count_by is_folder_fault (entries_of call e.kinds) ≡ 0
@@ -42,11 +49,16 @@ record IsPlainEffect (call : CallId) (e : Effect Value Change) : Type 0 where
 pub record OwnTurn (t : Turned Value Change) (kinds : List PrefKind) : Type 0 where
   pub adds : t.world_after.history ≡ t.world.history ++ entries_of t.call.id kinds
   pub alive : list_any dies (entries_of t.call.id kinds) ≡ false
-  pub faults : count_by is_folder_fault (entries_of t.call.id kinds) ≡ 0
   pub built : list_any comes_later (entries_of t.call.id kinds) ≡ false
   pub deaths : t.world_after.deaths ≡ t.world.deaths
-  pub count : t.world_after.tally.count ≡ 0
-  pub due : (count : ℕ) → most_of count t.world_after.tally.due ≡ most_of count t.world.tally.due
+
+-- a test that passes no Fault of the folder passes none of these with it
+pub none_with_fault : (p : PrefEntry → Bool) (call : CallId) (used : FolderUse) (count : ℕ) (kinds : List PrefKind) → p (record { who = call; kind = Fault Folder count }) ≡ false → list_any p (entries_of call kinds) ≡ false
+    → list_any p (entries_of call (all_kinds used count kinds)) ≡ false
+none_with_fault p call (Faulted request) count kinds fault none =
+    let entry : PrefKind → PrefEntry = λ kind. record { who = call; kind = kind } in
+    rw (map-append entry kinds (Fault Folder count ∷ [])) (one_more p (entries_of call kinds) (entry (Fault Folder count)) none fault)
+none_with_fault p call other count kinds fault none = none
 
 ends_so : (next : Next Value Change) (reply : Reply Value) → Ended reply ≡ gave_by next → next ≡ Ends reply
 ends_so (Ends given) reply is = let same : given ≡ reply = (let both : ◌≡◌ {A = Progress (Reply Value)} (Ended reply) (Ended given) = is in cc) in ap Ends same
@@ -89,41 +101,35 @@ module _ (r : PrefRules) {M : Type 0} (s : Store Value M) where
   row_by true t e it = absurd it
   row_by false t e it = it
 
-  module _ (t : Turned Value Change) (peace : Peaceful t.world) where
+  module _ (t : Turned Value Change) (living : Living t.world) where
     -- the node of the call has not died
-    pub living : has_died_by (begin t) ≡ false
-    living = has_not_died t.call.id.node (begin t).call.since t.world.history peace.alive
+    pub lives : has_died_by (begin t) ≡ false
+    lives = has_not_died t.call.id.node (begin t).call.since t.world.history living.alive
 
     pub goes_on : dies_now (begin t) ≡ false
-    goes_on = rw peace.deaths refl
+    goes_on = rw living.deaths refl
 
     module _ (gave : Progress (Reply Value)) (turn : Turn r s t gave) where
       -- the turn is its row
       pub turn_row : RowOf r s t turn.effect
-      turn_row = row_by (is_gone t.call.at) (begin t) turn.effect (rw (living, goes_on) at turn.allowed)
+      turn_row = row_by (is_gone t.call.at) (begin t) turn.effect (rw (lives, goes_on) at turn.allowed)
 
-      module _ (told : IsTrue t.world.told) where
-        calm : NoneFails t.world.tally t.world_after.tally turn.effect
-        calm = none_fails (begin t) turn.effect told peace turn.comes.used (ap (λ (w : PrefWorld). w.tally) turn.comes.world)
+      -- it adds the entries of its row, and the Fault of a folder that failed
+      adds_own : t.world_after.history ≡ t.world.history ++ entries_of t.call.id (kinds_of t turn.effect)
+      adds_own = ap (λ (w : PrefWorld). w.history) turn.comes.world ∙ all_added t.call.id (kinds_of t turn.effect) t.world.history
 
-        -- it adds the entries of its row
-        adds_own : t.world_after.history ≡ t.world.history ++ entries_of t.call.id turn.effect.kinds
-        adds_own =
-            ap (λ (w : PrefWorld). w.history) turn.comes.world
-            ∙ ap (λ kinds. with_entries t.call.id kinds t.world.history) (calm.kinds t.world_after.tally.count)
-            ∙ all_added t.call.id turn.effect.kinds t.world.history
+      module _ (plan : PlanAt t.call.at) where
+        pub plain_turn : IsPlainEffect t.call.id turn.effect
+        plain_turn = row_plain t.world t.call.id turn_row plan
 
-        pub own_turn : PlanAt t.call.at → OwnTurn t turn.effect.kinds
-        own_turn plan =
-            let plain = row_plain t.world t.call.id turn_row plan in
+        pub own_turn : OwnTurn t (kinds_of t turn.effect)
+        own_turn =
+            let plain = plain_turn in
             record {
               adds = adds_own;
-              alive = plain.alive;
-              faults = plain.faults;
-              built = plain.built;
+              alive = none_with_fault dies t.call.id turn.effect.folder t.world_after.tally.count turn.effect.kinds refl plain.alive;
+              built = none_with_fault comes_later t.call.id turn.effect.folder t.world_after.tally.count turn.effect.kinds refl plain.built;
               deaths = ap (λ (w : PrefWorld). w.deaths) turn.comes.world ∙ rw plain.spares refl;
-              count = calm.count;
-              due = calm.due;
             }
 
     module _ (reply : Reply Value) (turn : Turn r s t (Ended reply)) (answer : AnswerSeen) (tells : reply_told reply ≡ Some answer) where
@@ -136,12 +142,12 @@ module _ (r : PrefRules) {M : Type 0} (s : Store Value M) where
           rw tells at now
 
       -- an answer leaves no update of its call, unless that may stand
-      pub leaves_none : IsTrue t.world.told → OwnEntries t.call.id t.call.at t.world.history → may_stand answer ≡ false → list_any (is_own is_update t.call.id) t.world_after.history ≡ false
-      leaves_none told own out =
+      pub leaves_none : OwnEntries t.call.id t.call.at t.world.history → may_stand answer ≡ false → list_any (is_own is_update t.call.id) t.world_after.history ≡ false
+      leaves_none own out =
           let early = row_early t.world t.call.id (turn_row (Ended reply) turn) (rw (ends, tells) out) own in
-          let same : t.world_after.history ≡ t.world.history =
-          adds_own (Ended reply) turn told ∙ ap (λ kinds. t.world.history ++ entries_of t.call.id kinds) early.1 ∙ append-nil t.world.history in
-          rw same (no_update t.call.id t.world.history early.0)
+          let more : list_any (is_own is_update t.call.id) (entries_of t.call.id (kinds_of t turn.effect)) ≡ false =
+          none_with_fault (is_own is_update t.call.id) t.call.id turn.effect.folder t.world_after.tally.count turn.effect.kinds (and_right _ false refl) (rw early.1 refl) in
+          rw (adds_own (Ended reply) turn) (none_in_both (is_own is_update t.call.id) t.world.history (entries_of t.call.id (kinds_of t turn.effect)) (no_update t.call.id t.world.history early.0) more)
 
   module _ (t : Turned Value Change) where
     pub same_call_after : (gave : Progress (Reply Value)) → Turn r s t gave → t.call_after.id ≡ t.call.id

@@ -6,7 +6,7 @@ use Rattle.std.proofs.lemmas.List.Elements.{All-contains_itself, All-map, All-ni
 use Rattle.std.proofs.lemmas.List.FromFn.{length-enumerate_from}
 use Rattle.std.proofs.lemmas.Option.{slice_get-get_or}
 use Rattle.store_traits.specs.declared.ids.NodeId.{NodeId}
-use Rattle.folder_disk.specs.Tally.{Tally, most_of}
+use Rattle.folder_disk.specs.Tally.{Tally}
 use Rattle.hist_journal.specs.Folds.{raises_of}
 use Rattle.hist_journal.specs.Quiet.{pending}
 use Rattle.shelf.specs.declared.store.Store.{Store}
@@ -19,6 +19,7 @@ use Rattle.script_lang.specs.Chronicle.{nodes_of}
 use Rattle.script_lang.specs.declared.plan.script.Script.{Script}
 use Rattle.script_lang.specs.declared.plan.run_line.Act.{Act}
 use Rattle.replay_run.specs.ClientInvariant.{CallInvariant, ClientInvariant}
+use Rattle.replay_run.specs.Failing.{FailsWithin}
 use Rattle.replay_run.specs.Rounds.{IsOver}
 use Rattle.replay_run.specs.RunInvariant.{IsOfCall, ReadsWell, RunInvariant}
 use Rattle.replay_run.specs.RunState.{Client, NodeView, RunState, act_now, act_of, is_busy}
@@ -27,7 +28,6 @@ use Rattle.replay_run.specs.Start.{new_client, new_clients, start_of, world_of}
 use Rattle.replay_run.specs.Steps.{StepsAt}
 use Rattle.replay_run.proofs.keeping.AnswerLemmas.{answered_within}
 use Rattle.replay_run.proofs.keeping.LookKeeps.{look_keeps}
-use Rattle.replay_run.proofs.keeping.Peaceful.{none_before}
 use Rattle.replay_run.proofs.keeping.StepCases.{StepCase, looks, rests, step_case, turns}
 use Rattle.replay_run.proofs.keeping.TurnKeeps.{turn_keeps}
 use Rattle.replay_run.proofs.lists.OptionLemmas.{none_at, none_past, nothing, one_of}
@@ -60,16 +60,15 @@ pub homes_declared : (script : Script) → All (λ home. home.0 < length script.
 homes_declared script declared = rw (length-map, length-enumerate_from) declared
 
 module _ (r : PrefRules) {M : Type 0} (s : Store Value M) where
-  pub start_keeps : s.folder.most ≡ Some 0 → (before : List Asked) (tally : Tally) (homes : List NodeId) → tally.count ≡ s.folder.count → most_of s.folder.count tally.due ≡ s.folder.most → All (λ home. home.0 < length s.nodes) homes → RunInvariant r s (start_of before tally s homes)
+  pub start_keeps : (before : List Asked) (tally : Tally) (homes : List NodeId) → tally.count ≡ s.folder.count → FailsWithin s tally → All (λ home. home.0 < length s.nodes) homes → RunInvariant r s (start_of before tally s homes)
   unfolding pending raises_of
-  start_keeps most before tally homes counted due declared =
+  start_keeps before tally homes counted failing declared =
       record {
         clients = λ place client found. keeps_new place client (new_from before 0 homes place client found);
         entries = All-nil (IsOfCall (new_clients before homes));
         owner = tt;
-        faults = rw counted omega arith;
-        struck = rw (most, counted, (none_before s most tally.due due).0) omega arith;
-        due = due;
+        faults = let fits = failing.count in omega (arith, counted, fits);
+        failing = failing;
         deaths = λ front e behind is. absurd (nothing_stands_in_none front behind e is);
         left = All-contains_itself s.deaths;
         built = refl;
@@ -91,7 +90,7 @@ module _ (r : PrefRules) {M : Type 0} (s : Store Value M) where
             answers = λ front line behind is. absurd (nothing_stands_in_none front behind line is);
           })
 
-  module _ (unplanned : s.deaths ≡ []) (most : s.folder.most ≡ Some 0) (place : ℕ) (old new : RunState) (it : StepsAt r s place old new) (well : ReadsWell r s old.shared.world) (keeps : RunInvariant r s old) where
+  module _ (unplanned : s.deaths ≡ []) (place : ℕ) (old new : RunState) (it : StepsAt r s place old new) (well : ReadsWell r s old.shared.world) (keeps : RunInvariant r s old) where
     abbrev w_after : PrefWorld
     w_after = new.shared.world
 
@@ -114,7 +113,7 @@ module _ (r : PrefRules) {M : Type 0} (s : Store Value M) where
 
     by_case : StepCase r s it.client view it.client_after view_after → Now w_after (caches_after it.kept_after) it.client_after
     by_case (rests none client same) = same_view it.client_after same (rw (client, set_same old.clients place it.client it.was) keeps)
-    by_case (turns ask asked turn) = turn_keeps r s unplanned most old place it.client it.client_after it.kept it.kept_after w_after ask it.was it.cache asked turn keeps well
+    by_case (turns ask asked turn) = turn_keeps r s unplanned old place it.client it.client_after it.kept it.kept_after w_after ask it.was it.cache asked turn keeps well
     by_case (looks asked idle look) = same_view it.client_after look.same (rw look.now (look_keeps r s old place it.client it.kept it.was it.cache asked idle keeps well))
 
     -- the state keeps this from step to step

@@ -1,5 +1,5 @@
 -- A turn of a client's call keeps what is kept between the steps of a run.
-use Rattle.std.proofs.Common.{◌≡◌, ◌∙◌, inl, inr, ◌≤◌, ◌<◌, ◌+◌, ◌==◌, ◌&&◌, ℕ, nat_le, Bool, true, false, List, All, Contains, [], ◌∷◌, ◌++◌, length, count_by, Option, Some, None, IfSome, MatchOption, append-nil, slice_get, slice_set, slice_index_or, unwrap_or, refl, sym, ap, subst, arith}
+use Rattle.std.proofs.Common.{◌≡◌, ◌∙◌, inl, inr, ◌≤◌, ◌<◌, ◌+◌, ◌-◌, ◌^◌, ◌==◌, ◌&&◌, min, ℕ, nat_le, Bool, true, false, List, All, Contains, [], ◌∷◌, ◌++◌, length, cond, count_by, Option, Some, None, IfSome, MatchOption, append-nil, slice_get, slice_set, slice_index_or, unwrap_or, refl, sym, ap, subst, arith}
 use Rattle.std.specs.List.{list_any}
 use Rattle.std.proofs.lemmas.Bool.{ne_eqb}
 use Rattle.std.proofs.lemmas.Bool.Decides.{nat_tests}
@@ -11,7 +11,6 @@ use Rattle.store_traits.specs.declared.ids.CallId.{CallId}
 use Rattle.store_traits.specs.declared.read_error.ReadError.{ReadError}
 use Rattle.store_traits.specs.declared.update_error.UpdateError.{UpdateError}
 use Rattle.store_traits.specs.declared.update_error.UpdateError.TheVariants as error
-use Rattle.folder_disk.specs.Tally.{most_of}
 use Rattle.hist_journal.specs.Folds.{edition_of}
 use Rattle.hist_journal.specs.Kinds.{is_call}
 use Rattle.prefs_text.specs.EntryText.{PrefEntry, PrefKind}
@@ -30,12 +29,13 @@ use Rattle.step_table.specs.declared.progress.Progress.{Progress}
 use Rattle.step_table.specs.declared.progress.Progress.TheVariants.{Ended}
 use Rattle.step_table.specs.Caching.{published_by}
 use Rattle.step_table.specs.Calls.{Update, Read, Reply, Updated, Gave, Failed, is_gone}
+use Rattle.step_table.specs.Effects.{left_by}
 use Rattle.step_table.specs.Turn.{Turn}
-use Rattle.step_table.specs.World.{Turned}
+use Rattle.step_table.specs.World.{Turned, begin}
 use Rattle.step_table.proofs.Applying.{ended_owns_nothing, entries_of, none_passes, turn_owner, version_counts}
 use Rattle.step_table.proofs.Waiting.{turn_waits}
 use Rattle.value_cache.specs.Truth.{IsOfPrefix}
-use Rattle.value_cache.proofs.TruthLemmas.{IsOfPrefix-append, IsOfPrefix-now, IsOfPrefix-published}
+use Rattle.value_cache.proofs.TruthLemmas.{IsOfPrefix-append, IsOfPrefix-now}
 use Rattle.node_core.specs.Own.{IsFor}
 use Rattle.node_core.specs.Shown.{ShowsReadCause, ShowsReply, as_read}
 use Rattle.node_core.proofs.BetweenLemmas.{between_keeps_knowledge}
@@ -50,17 +50,20 @@ use Rattle.script_lang.specs.Shown.{printed, shown_to}
 use Rattle.script_lang.specs.declared.plan.run_line.Act.{Act}
 use Rattle.script_lang.specs.declared.plan.run_line.Act.TheVariants as act
 use Rattle.replay_run.specs.Answering.{client_answered, error_told, reply_told}
-use Rattle.replay_run.specs.ClientInvariant.{CallInvariant, ClientInvariant, IsExplained, IsTrueAnswer}
+use Rattle.replay_run.specs.ClientInvariant.{CallInvariant, CarriesOwn, ClientInvariant, IsExplained, IsTrueAnswer}
+use Rattle.replay_run.specs.Failing.{FailsWithin}
 use Rattle.replay_run.specs.RunInvariant.{HasOwner, IsOfCall, ReadsWell, RunInvariant}
 use Rattle.replay_run.specs.RunState.{Client, RunState, act_now, act_of, call_at, call_now, new_call}
 use Rattle.replay_run.specs.Settings.{Change, PrefAsk, PrefCached, PrefCall, PrefRules, PrefWorld, Value}
-use Rattle.replay_run.specs.Steps.{TakesTurn, kept_behind}
+use Rattle.replay_run.specs.Steps.{TakesTurn}
 use Rattle.replay_run.proofs.keeping.AnswerLemmas.{answers_more, answers_same, cause_of_less, read_cause_of_less, shown_stays, shown_within}
 use Rattle.replay_run.proofs.keeping.BehindTurns.{Behind, at_most_one, IsSameClient, behind, behind_same, blocked, client_on, ended, line_of, moved}
 use Rattle.replay_run.proofs.keeping.CallKept.{call_kept, middle_none}
+use Rattle.replay_run.proofs.keeping.Failures.{fails_within_after, faults_counted}
 use Rattle.replay_run.proofs.keeping.KeptBehind.{kept_true}
-use Rattle.replay_run.proofs.keeping.OwnTurns.{OwnTurn, comes_later, leaves_none, living, own_turn, prints_now, same_call_after}
-use Rattle.replay_run.proofs.keeping.Peaceful.{Peaceful, dies, is_folder_fault, is_peaceful, none_before}
+use Rattle.replay_run.proofs.keeping.Living.{Living, dies, is_folder_fault, is_living}
+use Rattle.replay_run.proofs.keeping.OwnEdits.{turn_carries}
+use Rattle.replay_run.proofs.keeping.OwnTurns.{OwnTurn, comes_later, kinds_of, leaves_none, lives, own_turn, plain_turn, prints_now, same_call_after, turn_row}
 use Rattle.replay_run.proofs.keeping.ReplacedClient.{entries_on, homes_on, owner_apart}
 use Rattle.replay_run.proofs.lists.JoinedLemmas.{found_between}
 use Rattle.replay_run.proofs.lists.OptionLemmas.{none_at, one_of_it}
@@ -70,10 +73,11 @@ use Rattle.replay_run.proofs.lists.SetViews.{all_found, all_set}
 up_to_none : (same : Bool) (earlier place nth : ℕ) → place < nth → (same && nat_le (earlier + nth + 1) (earlier + place + 1)) ≡ false
 up_to_none same earlier place nth less = grind (arith, nat_tests, less)
 
-none_counted : {X : Type 0} (p : X → Bool) (xs ys : List X) → count_by p xs ≡ 0 → count_by p ys ≡ 0 → count_by p (xs ++ ys) ≡ 0
-none_counted p xs ys none more = sum_by-append _ xs ys ∙ rw (none, more) refl
+-- a count that ends at its bound counts on from there
+counted_on : (before first more most : ℕ) → min (min (before + first) most + more) most ≡ min (before + (first + more)) most
+counted_on before first more most = omega arith
 
-module _ (r : PrefRules) {M : Type 0} (s : Store Value M) (unplanned : s.deaths ≡ []) (most : s.folder.most ≡ Some 0) where
+module _ (r : PrefRules) {M : Type 0} (s : Store Value M) (unplanned : s.deaths ≡ []) where
   module _ (state : RunState) (place : ℕ) (client now : Client) (cached cached_after : Option PrefCached) (w_after : PrefWorld) (ask : PrefAsk) (found : slice_get state.clients place ≡ Some client)
       (cache : slice_get state.shared.caches client.node.0 ≡ Some cached) (asked : act_now client ≡ Some (act_of ask))
       (it : TakesTurn r s (call_now client ask) client (record { world = state.shared.world; kept = cached }) now (record { world = w_after; kept = cached_after })) (keeps : RunInvariant r s state) (well : ReadsWell r s state.shared.world) where
@@ -98,17 +102,34 @@ module _ (r : PrefRules) {M : Type 0} (s : Store Value M) (unplanned : s.deaths 
     kept : CallInvariant r s client w call
     kept = call_kept r s state place client found keeps ask asked
 
-    peace : Peaceful w
-    peace = is_peaceful s unplanned most r state keeps
+    living : Living w
+    living = is_living s unplanned r state keeps
 
-    own : OwnTurn turned it.turn.effect.kinds
-    own = own_turn r s turned peace it.gave it.turn well.told kept.knows.plan
+    -- what the turn adds
+    abbrev added : List PrefKind
+    added = kinds_of turned it.turn.effect
+
+    own : OwnTurn turned added
+    own = own_turn r s turned living it.gave it.turn kept.knows.plan
 
     abbrev more : List PrefEntry
-    more = entries_of call.id it.turn.effect.kinds
+    more = entries_of call.id added
 
     alive_after : list_any dies w_after.history ≡ false
-    alive_after = rw own.adds (none_in_both dies w.history more peace.alive own.alive)
+    alive_after = rw own.adds (none_in_both dies w.history more living.alive own.alive)
+
+    -- the folder's failures
+    tally_after : w_after.tally ≡ left_by it.turn.effect.folder w.tally w_after.tally
+    tally_after = ap (λ (w : PrefWorld). w.tally) it.turn.comes.world
+
+    failing_after : FailsWithin s w_after.tally
+    failing_after = fails_within_after s (begin turned) it.turn.effect well.told it.turn.comes.used tally_after keeps.failing
+
+    faults_after : w_after.tally.count ≡ min (s.folder.count + count_by is_folder_fault w_after.history) (2 ^ 64 - 1)
+    faults_after =
+        let plain = plain_turn r s turned living it.gave it.turn kept.knows.plan in
+        faults_counted s (begin turned) it.turn.effect well.told it.turn.comes.used tally_after keeps.failing plain.faults
+        ∙ rw (own.adds, sum_by-append (λ (e : PrefEntry). cond (is_folder_fault e) 1 0) w.history more, keeps.faults) (counted_on s.folder.count (count_by is_folder_fault w.history) (count_by is_folder_fault more) (2 ^ 64 - 1))
 
     same : IsSameClient client now
     same = behind_same it.gave now (behind client it.call_after it.gave now it.now)
@@ -130,7 +151,7 @@ module _ (r : PrefRules) {M : Type 0} (s : Store Value M) (unplanned : s.deaths 
       running_stays : (o : PrefCall) → CallInvariant r s c w o → CallInvariant r s c w_after o
       running_stays o theirs =
           let o_differs : (o.id.client.0 == call.id.client.0) ≡ false = rw theirs.id differ in
-          let none_own : NoneOf o.id more = none_passes call.id it.turn.effect.kinds (is_own is_any o.id) (λ kind. rw (middle_none (o.id.node.0 == call.id.node.0) (o.id.client.0 == call.id.client.0) (o.id.number == call.id.number) o_differs) refl) in
+          let none_own : NoneOf o.id more = none_passes call.id added (is_own is_any o.id) (λ kind. rw (middle_none (o.id.node.0 == call.id.node.0) (o.id.client.0 == call.id.client.0) (o.id.number == call.id.number) o_differs) refl) in
           record {
             ask = theirs.ask;
             asked = theirs.asked;
@@ -149,13 +170,13 @@ module _ (r : PrefRules) {M : Type 0} (s : Store Value M) (unplanned : s.deaths 
             running = IfSome_then c.running theirs.running running_stays;
             answers =
                 rw own.adds
-                (answers_more r s c w.history more c.answered theirs.answers (λ nth within. none_passes call.id it.turn.effect.kinds (is_up_to (call_at c nth)) (λ kind. rw differ refl)));
+                (answers_more r s c w.history more c.answered theirs.answers (λ nth within. none_passes call.id added (is_up_to (call_at c nth)) (λ kind. rw differ refl)));
           }
 
     -- the client itself: its answers stay true, and a new one is
     over_own : (nth : ℕ) → nth + 1 ≤ length client.answered → list_any (is_up_to (call_at client nth)) more ≡ false
     over_own nth within =
-        none_passes call.id it.turn.effect.kinds (is_up_to (call_at client nth)) (λ kind. rw kept.id (up_to_none _ client.earlier nth (length client.answered) (omega (arith, within))))
+        none_passes call.id added (is_up_to (call_at client nth)) (λ kind. rw kept.id (up_to_none _ client.earlier nth (length client.answered) (omega (arith, within))))
 
     still_true : Each (IsTrueAnswer r s w_after.history client) client.answered
     still_true = rw own.adds (answers_more r s client w.history more client.answered mine.answers over_own)
@@ -173,7 +194,7 @@ module _ (r : PrefRules) {M : Type 0} (s : Store Value M) (unplanned : s.deaths 
     Shows ask reply = ShowsReply w.told r s (edition_of w.history) call.id ask reply w_after.history
 
     shows : (reply : Reply Value) → TurnOf (Ended reply) → Shows kept.ask reply
-    shows reply turn = turn_shows r s kept.ask turned kept.knows well.reads kept.is_for (Ended reply) turn (λ died. never (sym (living r s turned peace) ∙ died))
+    shows reply turn = turn_shows r s kept.ask turned kept.knows well.reads kept.is_for (Ended reply) turn (λ died. never (sym (lives r s turned living) ∙ died))
 
     abbrev IsExplainedNow : Act → AnswerSeen → Type 0
     IsExplainedNow = IsExplained r s w_after.history shown call.id
@@ -206,6 +227,11 @@ module _ (r : PrefRules) {M : Type 0} (s : Store Value M) (unplanned : s.deaths 
     explains : (reply : Reply Value) → TurnOf (Ended reply) → IfSome (reply_told reply) (IsExplainedNow (act_of kept.ask))
     explains reply turn = explained_by kept.ask reply (shows reply turn)
 
+    own_carried : CarriesOwn call.id (act_of kept.ask) w_after.history
+    own_carried =
+        subst (λ list. CarriesOwn call.id (act_of kept.ask) list) (sym own.adds)
+        (turn_carries call.id kept.ask r s w call.at it.turn.effect w_after.tally.count (turn_row r s turned living it.gave it.turn) kept.knows.entries kept.is_for)
+
     new_answer : (reply : Reply Value) (answer : AnswerSeen) → reply_told reply ≡ Some answer → TurnOf (Ended reply) → IsTrueAnswer r s w_after.history client client.answered (line_of it.call_after.id answer)
     new_answer reply answer tells turn =
         record {
@@ -214,8 +240,9 @@ module _ (r : PrefRules) {M : Type 0} (s : Store Value M) (unplanned : s.deaths 
           call = same_id ∙ kept.id;
           poster = refl;
           explained = subst (λ id. IsExplained r s w_after.history shown id (act_of kept.ask) answer) (sym same_id) (let here = explains reply turn in rw tells at here);
-          late = IfSome_then (printed answer) (prints_now r s turned peace reply turn answer tells) (λ edition now. rw now within_now);
-          none = subst (λ id. may_stand answer ≡ false → list_any (is_own is_update id) w_after.history ≡ false) (sym same_id) (leaves_none r s turned peace reply turn answer tells well.told kept.knows.entries);
+          late = IfSome_then (printed answer) (prints_now r s turned living reply turn answer tells) (λ edition now. rw now within_now);
+          none = subst (λ id. may_stand answer ≡ false → list_any (is_own is_update id) w_after.history ≡ false) (sym same_id) (leaves_none r s turned living reply turn answer tells kept.knows.entries);
+          carried = subst (λ id. CarriesOwn id (act_of kept.ask) w_after.history) (sym same_id) own_carried;
         }
 
     -- the call goes on
@@ -263,7 +290,7 @@ module _ (r : PrefRules) {M : Type 0} (s : Store Value M) (unplanned : s.deaths 
     all_entries =
         All-append (IsOfCall clients_after) w.history more
         (entries_on state.clients place client now found (λ nth. rw (same.id, same.node, same.earlier) refl) (let most = at_most_one client in let all = same.begun in omega (arith, most, all)) w.history keeps.entries)
-        (All-map (IsOfCall clients_after) (λ kind. record { who = call.id; kind = kind }) it.turn.effect.kinds (λ k d within. own_entry (slice_index_or it.turn.effect.kinds k d)))
+        (All-map (IsOfCall clients_after) (λ kind. record { who = call.id; kind = kind }) added (λ k d within. own_entry (slice_index_or added k d)))
 
     -- the lock: the call owns it behind the turn, or another did before
     own_owner : (gave : Progress (Reply Value)) (c : Client) → Behind client it.call_after gave c → TurnOf gave → w_after.owner ≡ Some call.id → HasOwner (slice_set state.clients place c) call.id
@@ -324,7 +351,6 @@ module _ (r : PrefRules) {M : Type 0} (s : Store Value M) (unplanned : s.deaths 
 
     pub turn_keeps : RunInvariant r s (record { shared = record { world = w_after; caches = caches_after }; clients = clients_after })
     turn_keeps =
-        let due : most_of s.folder.count w_after.tally.due ≡ s.folder.most = own.due s.folder.count ∙ keeps.due in
         record {
           clients =
               λ other c is.
@@ -334,13 +360,12 @@ module _ (r : PrefRules) {M : Type 0} (s : Store Value M) (unplanned : s.deaths 
               ];
           entries = rw own.adds all_entries;
           owner = owner_by w_after.owner refl;
-          faults = own.count ∙ rw ((none_before s most w.tally.due keeps.due).0, own.adds, none_counted is_folder_fault w.history more peace.faults own.faults) refl;
-          struck = rw most (rw own.count omega arith);
-          due = due;
+          faults = faults_after;
+          failing = failing_after;
           deaths = λ before e behind is dead. never (sym (none_at dies w_after.history (length before) e alive_after (rw is (found_between before e behind))) ∙ dead);
-          left = rw (own.deaths, peace.deaths) (All-nil (Contains s.deaths));
+          left = rw (own.deaths, living.deaths) (All-nil (Contains s.deaths));
           built = rw own.adds (none_in_both comes_later w.history more keeps.built own.built);
-          quiet = turn_quiet r s turned it.gave it.turn kept.knows keeps.quiet (living r s turned peace);
+          quiet = turn_quiet r s turned it.gave it.turn kept.knows keeps.quiet (lives r s turned living);
           version = version_counts r s turned it.gave it.turn keeps.version;
           cached = all_set IsOfNow state.shared.caches client.node.0 cached_after own_cache (λ other one apart is. cache_stays other one is);
           homes = rw (length-set state.shared.caches client.node.0 cached_after) (homes_on state.clients place client now found same.node (length state.shared.caches) keeps.homes);

@@ -1,10 +1,9 @@
 -- What a run keeps of main: the history is lawful, main is what it comes to, and what a client writes may be main.
 use Rattle.std.proofs.Common.{◌≡◌, ◌∙◌, ◌<◌, ◌^◌, inl, inr, ℕ, true, List, [], ◌∷◌, All, length, Option, Some, None, IfSome, refl, sym, ap, ne_eqb, arith, slice_get}
-use Rattle.std.proofs.lemmas.Bool.{OnTrue_at}
 use Rattle.std.proofs.lemmas.List.Elements.{All-append, All-cons, All-nil}
 use Rattle.store_traits.specs.declared.ids.CallId.{CallId}
 use Rattle.store_traits.specs.declared.ids.NodeId.{NodeId}
-use Rattle.folder_disk.specs.Tally.{Tally, most_of}
+use Rattle.folder_disk.specs.Tally.{Tally}
 use Rattle.hist_journal.specs.Folds as folds
 use Rattle.hist_journal.specs.Folds.{edition_of}
 use Rattle.prefs_edit.proofs.Maps.{IsMap-after_steps}
@@ -26,6 +25,7 @@ use Rattle.script_lang.specs.Asked.{Asked}
 use Rattle.script_lang.specs.declared.plan.run_line.Act.{Act}
 use Rattle.replay_run.specs.Answering.{behind_look}
 use Rattle.replay_run.specs.ClientInvariant.{CallInvariant}
+use Rattle.replay_run.specs.Failing.{FailsWithin}
 use Rattle.replay_run.specs.Lines.{Asks}
 use Rattle.replay_run.specs.PrefsBasis.{prefs_basis}
 use Rattle.replay_run.specs.RunInvariant.{ReadsWell, RunInvariant}
@@ -36,12 +36,12 @@ use Rattle.replay_run.specs.Steps.{StepsAt, TakesTurn}
 use Rattle.replay_run.specs.Typed.{AreSteps, IsTypedAct}
 use Rattle.replay_run.proofs.keeping.BehindTurns.{Behind, behind, behind_same, blocked, ended, moved}
 use Rattle.replay_run.proofs.keeping.CallKept.{asks_keep, call_kept}
-use Rattle.replay_run.proofs.keeping.Peaceful.{Peaceful, is_peaceful}
+use Rattle.replay_run.proofs.keeping.Living.{Living, is_living}
 use Rattle.replay_run.proofs.keeping.StepCases.{StepCase, looks, rests, step_case, turns}
 use Rattle.replay_run.proofs.keeping.StepsKeep.{new_from, start_keeps, steps_keep}
+use Rattle.replay_run.proofs.kept.FaultsTold.{CountsFaults, counts_on, counts_rise}
 use Rattle.replay_run.proofs.kept.MainKept.{turn_keeps_main}
 use Rattle.replay_run.proofs.kept.PlansKept.{IsTypedAsk, ReadsValues, plan_stays, reads_fresh, reads_well, turn_keeps_may}
-use Rattle.replay_run.proofs.kept.RowFits.{FaultsRise}
 use Rattle.replay_run.proofs.lists.SetLemmas.{found_then}
 use Rattle.replay_run.proofs.lists.SetViews.{all_found}
 
@@ -71,22 +71,24 @@ module _ (r : PrefRules) {M : Type 0} (s : Store Value M) where
     pub typed : All IsTypedAct client.asked
     pub writes : IfSome client.running (MayWriteNow w)
 
-  -- beside the run's own, the history is lawful, and main is what it comes to
+  -- beside the run's own, the history is lawful, main is what it comes to, and the folder counts what Faults tell
   pub record KeptState (state : RunState) : Type 0 where
     pub run : RunInvariant r s state
     pub told : state.shared.world.told ≡ true
     pub main : KeptMain r IsMap s state.shared.world.folder state.shared.world.history
+    pub counts : CountsFaults s state.shared.world.tally.count state.shared.world.history
     pub clients : (place : ℕ) (client : Client) → slice_get state.clients place ≡ Some client → KeptClient state.shared.world client
 
   -- a session whose base is what main reads as starts so
-  pub start_keeps_main : HasItsBase r.reads r.absent s → s.folder.most ≡ Some 0 → (before : List Asked) (tally : Tally) (homes : List NodeId) → tally.count ≡ s.folder.count → most_of s.folder.count tally.due ≡ s.folder.most
+  pub start_keeps_main : HasItsBase r.reads r.absent s → (before : List Asked) (tally : Tally) (homes : List NodeId) → tally.count ≡ s.folder.count → FailsWithin s tally
       → All (λ home. home.0 < length s.nodes) homes → KeptState (start_of before tally s homes)
   unfolding edition_of folds.main_of
-  start_keeps_main base most before tally homes counted due declared =
+  start_keeps_main base before tally homes counted failing declared =
       record {
-        run = start_keeps r s most before tally homes counted due declared;
+        run = start_keeps r s before tally homes counted failing declared;
         told = refl;
         main = record { legal = Legal-empty r.meanings s; main = refl; base = base; changed = λ some. absurd (some refl) };
+        counts = record { first = rw counted omega arith; told = λ greater low. refl };
         clients = λ place client found. let new = new_from before 0 homes place client found in rw new.is (record { typed = All-nil IsTypedAct; writes = tt });
       }
 
@@ -98,6 +100,7 @@ module _ (r : PrefRules) {M : Type 0} (s : Store Value M) where
         run = asks_keep r s place asked old new it k.run;
         told = rw it.now k.told;
         main = rw it.now k.main;
+        counts = rw it.now k.counts;
         clients =
             rw it.now
             (λ other c is.
@@ -107,7 +110,7 @@ module _ (r : PrefRules) {M : Type 0} (s : Store Value M) where
             ]);
       }
 
-  module _ (values : ReadsValues r IsMap AreSteps s) (unplanned : s.deaths ≡ []) (most : s.folder.most ≡ Some 0) where
+  module _ (values : ReadsValues r IsMap AreSteps s) (unplanned : s.deaths ≡ []) where
     module _ (place : ℕ) (old new : RunState) (it : StepsAt r s place old new) (k : KeptState old) where
       abbrev w : PrefWorld
       w = old.shared.world
@@ -125,10 +128,10 @@ module _ (r : PrefRules) {M : Type 0} (s : Store Value M) where
       well = record { told = k.told; reads = reads_well r IsMap AreSteps s values w (λ told. k.main); fresh = reads_fresh r.meanings s w.history k.main.legal }
 
       run_after : RunInvariant r s new
-      run_after = steps_keep r s unplanned most place old new it well k.run
+      run_after = steps_keep r s unplanned place old new it well k.run
 
-      peace : Peaceful w_after
-      peace = is_peaceful s unplanned most r new run_after
+      living_after : Living w_after
+      living_after = is_living s unplanned r new run_after
 
       mine : KeptClient w it.client
       mine = k.clients place it.client it.was
@@ -137,6 +140,7 @@ module _ (r : PrefRules) {M : Type 0} (s : Store Value M) where
       record Left : Type 0 where
         told : w_after.told ≡ true
         main : KeptMain r IsMap s w_after.folder w_after.history
+        counts : CountsFaults s w_after.tally.count w_after.history
         own : KeptClient w_after it.client_after
         others : (other : ℕ) (c : Client) → (other ≡ place → ⊥) → slice_get old.clients other ≡ Some c → KeptClient w_after c
 
@@ -149,10 +153,6 @@ module _ (r : PrefRules) {M : Type 0} (s : Store Value M) where
 
         kept : CallInvariant r s it.client w call
         kept = call_kept r s old place it.client it.was k.run ask asked
-
-        -- no call of the folder fails
-        rise : FaultsRise r s turned
-        rise request serves = absurd (elim (OnTrue_at refl serves.tally.counts.cause) [ inl more ↦ omega (arith, more, peace.count) | inr most ↦ omega (arith, most, peace.count) ])
 
         may : MayWriteNow w call
         may = by_running it.client.running mine.writes
@@ -182,14 +182,15 @@ module _ (r : PrefRules) {M : Type 0} (s : Store Value M) where
                 let here : call.id.client.0 ≡ place = ap (λ (id : CallId). id.client.0) kept.id ∙ (k.run.clients place it.client it.was).id in
                 let differ = ne_eqb o.id.client.0 call.id.client.0 (λ same. apart (sym there ∙ (same ∙ here))) in
                 plan_stays r IsMap s o w w_after theirs.knows (turn_spares r s turned turn.gave turn.turn kept.knows o differ theirs.knows)
-                (has_not_died o.id.node o.since w_after.history peace.alive) writes
+                (has_not_died o.id.node o.since w_after.history living_after.alive) writes
 
         left_by_turn : Left
         left_by_turn =
             let gone = behind it.client turn.call_after turn.gave it.client_after turn.now in
             record {
               told = ap (λ (x : PrefWorld). x.told) turn.turn.comes.world ∙ k.told;
-              main = turn_keeps_main r IsMap s turned turn.gave turn.turn (λ lives. kept.knows) may k.told rise k.main;
+              main = turn_keeps_main r IsMap s turned turn.gave turn.turn (λ lives. kept.knows) may k.told (counts_rise r s turned k.counts) k.main;
+              counts = counts_on r s turned k.counts (is_living s unplanned r old k.run) turn.gave turn.turn kept.knows.plan;
               own = record { typed = rw (behind_same turn.gave it.client_after gone).asked mine.typed; writes = own_writes turn.gave it.client_after gone };
               others = λ other c apart found. record { typed = (k.clients other c found).typed; writes = others_write other c apart found };
             }
@@ -198,7 +199,7 @@ module _ (r : PrefRules) {M : Type 0} (s : Store Value M) where
       left_by_other : view_after ≡ view → KeptClient w it.client_after → Left
       left_by_other same own =
           let world = ap (λ (v : NodeView). v.world) same in
-          record { told = rw world k.told; main = rw world k.main; own = rw world own; others = λ other c apart found. rw world (k.clients other c found) }
+          record { told = rw world k.told; main = rw world k.main; counts = rw world k.counts; own = rw world own; others = λ other c apart found. rw world (k.clients other c found) }
 
       -- a read writes nothing
       behind_its_look : (found : Option PrefCached) → KeptClient w (behind_look it.client found)
@@ -218,6 +219,7 @@ module _ (r : PrefRules) {M : Type 0} (s : Store Value M) where
             run = run_after;
             told = it_left.told;
             main = it_left.main;
+            counts = it_left.counts;
             clients =
                 λ other c is.
                 elim (found_then old.clients place other it.client_after c (rw it.now at is)) [

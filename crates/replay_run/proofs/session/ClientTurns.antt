@@ -1,26 +1,20 @@
 -- What a client comes to by a turn of its call, or by a look.
-use Rattle.std.proofs.Common.{◌≡◌, ◌∙◌, ◌⊎◌, ◌≤◌, ◌<◌, ◌+◌, ◌++◌, ◌∷◌, ℕ, true, false, IfSome, OnOk, IsTrue, [], append-nil, inl, inr, length, map, Option, Some, None, option_map, slice_get, unwrap_or, vec_len, refl, sym, ap, subst, Result, Ok, Err, arith}
-use Rattle.std.proofs.lemmas.List.{length-map, map_push}
+use Rattle.std.proofs.Common.{◌≡◌, ◌∙◌, ◌⊎◌, ◌≤◌, ◌<◌, ℕ, false, IfSome, OnOk, IsTrue, inl, inr, length, Option, Some, None, option_map, slice_get, unwrap_or, vec_len, refl, sym, ap, subst, Result, Ok, Err, arith}
+use Rattle.std.proofs.lemmas.List.{length-map}
 use Rattle.std.proofs.lemmas.Option.{slice_get-map, slice_get_within}
 use Rattle.store_traits.specs.declared.codec.Codec as codec_trait
 use Rattle.store_traits.specs.declared.given.Given.{Given}
-use Rattle.store_traits.specs.declared.ids.CallId.{CallId}
 use Rattle.store_traits.specs.declared.transform.Transform as transform_trait
 use Rattle.folder_disk.specs.declared.folder.Folder as folder_trait
-use Rattle.folder_disk.specs.declared.mem_folder.MemFolder.{MemFolder}
 use Rattle.prefs_proto.specs.declared.prefs_codec.PrefsCodec.{PrefsCodec}
 use Rattle.prefs_text.specs.AnswerView.{line_seen}
-use Rattle.prefs_text.specs.declared.answer_line.AnswerLine.{AnswerLine}
 use Rattle.prefs_text.specs.declared.seen.AnswerSeen.TheVariants as seen
-use Rattle.shelf.specs.AddsNode.{is_among}
 use Rattle.shelf.specs.declared.shelf.Shelf.{Shelf}
 use Rattle.shelf.specs.declared.store.Store.{Store}
 use Rattle.shelf.specs.ShelfSeen.{shelf_seen}
-use Rattle.shelf.proofs.Bools.{never}
 use Rattle.step_table.specs.Caching.{found, published_by}
 use Rattle.step_table.specs.Calls.{First, Gave, Read, Reply, Update, is_gone}
 use Rattle.step_table.specs.Effects.{Effect, FolderUse, SparesFolder, Unused, Served, Faulted, Uses}
-use Rattle.step_table.specs.Requests.{call_of}
 use Rattle.step_table.specs.Turn.{Turn}
 use Rattle.step_table.specs.World.{Turned, begin}
 use Rattle.step_table.specs.declared.progress.Progress.{Progress}
@@ -39,14 +33,13 @@ use Rattle.replay_run.specs.declared.task.Task.{Task}
 use Rattle.replay_run.specs.declared.task.Task.TheVariants as task
 use Rattle.replay_run.specs.Answering.{behind_look, behind_turn, client_answered}
 use Rattle.replay_run.specs.ClientInvariant.{CallInvariant}
-use Rattle.replay_run.specs.ClientSteps.{AnswersBy, IsAnswered, MayGo, MayTurn, Spares}
-use Rattle.replay_run.specs.RunningSteps.{CallMayStep, CallSteps, replied_so}
+use Rattle.replay_run.specs.ClientSteps.{IsAnswered, MayGo, MayTurn, Spares}
+use Rattle.replay_run.specs.RunningSteps.{CallSteps, replied_so}
 use Rattle.replay_run.specs.RunState.{Client, NodeView, act_now, act_of, call_now, new_call}
 use Rattle.replay_run.specs.SessionView.{EquippedIn, client_seen, rules_in, running_seen, store_in, task_seen, world_in}
-use Rattle.replay_run.specs.Settings.{Change, PrefAsk, PrefCached, PrefCall, PrefRules, Value}
+use Rattle.replay_run.specs.Settings.{Change, PrefAsk, PrefCached, PrefCall, PrefRules, ScriptFolder, Value}
 use Rattle.replay_run.specs.Steps.{ClientSteps, ReadSteps, StepsBy, TakesTurn, kept_behind}
-use Rattle.replay_run.proofs.keeping.BehindTurns.{client_on, line_of}
-use Rattle.replay_run.proofs.keeping.Peaceful.{never_due}
+use Rattle.replay_run.proofs.keeping.BehindTurns.{client_on}
 use Rattle.replay_run.proofs.lists.OptionLemmas.{one_of}
 
 -- what it is at is the task behind those that are answered
@@ -120,23 +113,23 @@ look_found client after (Some kept) given it answered =
     sym (one_of (client_answered (client_seen client) id (seen.Read given.edition given.value.value)) (client_seen after) (answered (new_call (client_seen client) Read) refl)) in
     told ∙ (ap (λ edition. client_answered (client_seen client) id (seen.Read edition given.value.value)) it.edition ∙ ap (λ value. client_answered (client_seen client) id (seen.Read kept.edition value)) it.value)
 
--- no call of the folder fails where none is to
-module _ (t : Turned Value Change) (e : Effect Value Change) (told : IsTrue t.world.told) (planned : t.world.tally.due.planned ≡ []) (fuses : t.world.tally.due.fuses ≡ []) where
+-- a folder that spares what it holds is as it was where its call failed
+module _ (t : Turned Value Change) (e : Effect Value Change) (told : IsTrue t.world.told) (spares : IsTrue t.world.spares) where
   spares_by : (used : FolderUse) → Uses t e used → SparesFolder used t.world t.world_after
   spares_by Unused it = tt
   spares_by (Served request) it = tt
-  spares_by (Faulted request) it = never (sym ((it.tally.due told).failed ∙ never_due (call_of request) t.world.tally.due planned fuses))
+  spares_by (Faulted request) it = it.spared told spares
 
-module _ {c : codec_trait.Ghosts PrefsCodec Value} {t : transform_trait.Ghosts Change Value} {f : folder_trait.Ghosts MemFolder} where
+module _ {c : codec_trait.Ghosts PrefsCodec Value} {t : transform_trait.Ghosts Change Value} {f : folder_trait.Ghosts ScriptFolder} where
   -- a client is equipped as its call is
-  pub on_equipped : (shelf : Shelf (PrefsParts MemFolder) PrefsCodec Change MemFolder Value c t f) (client : own.Client) (call : Running) → client.running ≡ Some call → Equipped c t f (running_seen call).at (shelf_seen shelf) → EquippedIn shelf client
+  pub on_equipped : (shelf : Shelf (PrefsParts ScriptFolder) PrefsCodec Change ScriptFolder Value c t f) (client : own.Client) (call : Running) → client.running ≡ Some call → Equipped c t f (running_seen call).at (shelf_seen shelf) → EquippedIn shelf client
   on_equipped shelf client call runs it = subst (λ running. IfSome running (λ call. Equipped c t f (running_seen call).at (shelf_seen shelf))) (sym runs) it
 
   -- a call that has taken no lock needs no room
-  first_equipped : (shelf : Shelf (PrefsParts MemFolder) PrefsCodec Change MemFolder Value c t f) (ask : PrefAsk) → Equipped c t f (First ask) (shelf_seen shelf)
+  first_equipped : (shelf : Shelf (PrefsParts ScriptFolder) PrefsCodec Change ScriptFolder Value c t f) (ask : PrefAsk) → Equipped c t f (First ask) (shelf_seen shelf)
   first_equipped shelf ask = record { entries = omega arith; room = tt; may = λ told. tt }
 
-  module _ (shelf : Shelf (PrefsParts MemFolder) PrefsCodec Change MemFolder Value c t f) (client : own.Client) (may : MayGo client shelf) (t' : Task) (found : slice_get client.asked.items (vec_len client.answered) ≡ Some t') where
+  module _ (shelf : Shelf (PrefsParts ScriptFolder) PrefsCodec Change ScriptFolder Value c t f) (client : own.Client) (may : MayGo client shelf) (t' : Task) (found : slice_get client.asked.items (vec_len client.answered) ≡ Some t') where
     pub asked : act_now (client_seen client) ≡ Some (act_of (ask_of t'))
     asked = act_seen client ∙ (ap (option_map task_seen) found ∙ ap Some (sym (task_asks t')))
 
@@ -152,8 +145,6 @@ module _ {c : codec_trait.Ghosts PrefsCodec Value} {t : transform_trait.Ghosts C
                 subst (CallInvariant (rules_in shelf) (store_in shelf) (at_rest client aside) (world_in shelf)) (sym is)
                 (record { ask = kept.ask; asked = kept.asked; id = kept.id; is_for = kept.is_for; knows = kept.knows; goes_on = kept.goes_on });
             equipped = equipped;
-            planned = may.planned;
-            fuses = may.fuses;
           }
 
       -- the one that runs
@@ -165,7 +156,7 @@ module _ {c : codec_trait.Ghosts PrefsCodec Value} {t : transform_trait.Ghosts C
       new_may idle is = may_turn (rw idle is) (rw is (first_equipped shelf (ask_of t')))
 
   -- the turn is the client's step
-  module _ (shelf : Shelf (PrefsParts MemFolder) PrefsCodec Change MemFolder Value c t f) (client client_after : own.Client) (aside : Option Running) (view view_after : NodeView) (call : Running)
+  module _ (shelf : Shelf (PrefsParts ScriptFolder) PrefsCodec Change ScriptFolder Value c t f) (client client_after : own.Client) (aside : Option Running) (view view_after : NodeView) (call : Running)
       (turn : TakesTurn (rules_in shelf) (store_in shelf) (running_seen call) (at_rest client aside) view (client_seen client_after) view_after) where
     taken : TakesTurn (rules_in shelf) (store_in shelf) (running_seen call) (client_seen client) view (client_seen client_after) view_after
     taken = record { call_after = turn.call_after; gave = turn.gave; turn = turn.turn; spares = turn.spares; now = sym (turn_same client aside turn.call_after turn.gave) ∙ turn.now; kept = turn.kept }
@@ -192,7 +183,7 @@ module _ {c : codec_trait.Ghosts PrefsCodec Value} {t : transform_trait.Ghosts C
         subst By (sym is) (taken_as (call_now (client_seen client) (Update edit)) (ap (λ o. unwrap_or o (new_call (client_seen client) (Update edit))) (ap (option_map running_seen) idle) ∙ sym new))
 
   -- a look is a step, where the version word has the number of raises
-  pub look_steps : (shelf : Shelf (PrefsParts MemFolder) PrefsCodec Change MemFolder Value c t f) (client client_after : own.Client) (aside : Option Running) (kept : Option PrefCached) (version : ℕ) → act_now (client_seen client) ≡ Some act.Read → client.running ≡ None → version ≡ (world_in shelf).version
+  pub look_steps : (shelf : Shelf (PrefsParts ScriptFolder) PrefsCodec Change ScriptFolder Value c t f) (client client_after : own.Client) (aside : Option Running) (kept : Option PrefCached) (version : ℕ) → act_now (client_seen client) ≡ Some act.Read → client.running ≡ None → version ≡ (world_in shelf).version
       → client_seen client_after ≡ behind_look (at_rest client aside) (found kept version)
       → ClientSteps (rules_in shelf) (store_in shelf) (client_seen client) (record { world = world_in shelf; kept = kept }) (client_seen client_after) (record { world = world_in shelf; kept = kept })
   look_steps shelf client client_after aside kept version is idle same now =
@@ -201,18 +192,18 @@ module _ {c : codec_trait.Ghosts PrefsCodec Value} {t : transform_trait.Ghosts C
       (subst (λ o. ReadSteps (rules_in shelf) (store_in shelf) o (client_seen client) view (client_seen client_after) view) (sym (ap (option_map running_seen) idle))
       (record { now = now ∙ (look_same client aside (found kept version) ∙ ap (λ n. behind_look (client_seen client) (found kept n)) same); same = refl }))
 
-  module _ (old : Shelf (PrefsParts MemFolder) PrefsCodec Change MemFolder Value c t f) (client : own.Client) (call : Running) (may : MayTurn client call old) where
-    module _ (new : Shelf (PrefsParts MemFolder) PrefsCodec Change MemFolder Value c t f) (after : Running) (gave : Progress (Reply Value)) (steps : CallSteps call old gave after new) where
+  module _ (old : Shelf (PrefsParts ScriptFolder) PrefsCodec Change ScriptFolder Value c t f) (client : own.Client) (call : Running) (may : MayTurn client call old) where
+    module _ (new : Shelf (PrefsParts ScriptFolder) PrefsCodec Change ScriptFolder Value c t f) (after : Running) (gave : Progress (Reply Value)) (steps : CallSteps call old gave after new) where
       -- the turn of the client, once it is told of
-      pub takes : IsTrue f.told → (now : own.Client) (kept kept_after : Option PrefCached) → behind_turn (client_seen client) (running_seen after) gave ≡ Some (client_seen now) → kept_after ≡ kept_behind kept (published_by (running_seen call).at gave (world_in new))
+      pub takes : IsTrue f.told → IsTrue f.spares → (now : own.Client) (kept kept_after : Option PrefCached) → behind_turn (client_seen client) (running_seen after) gave ≡ Some (client_seen now) → kept_after ≡ kept_behind kept (published_by (running_seen call).at gave (world_in new))
           → TakesTurn (rules_in old) (store_in old) (running_seen call) (client_seen client) (record { world = world_in old; kept = kept }) (client_seen now) (record { world = world_in new; kept = kept_after })
-      takes told now kept kept_after is published =
+      takes told spares now kept kept_after is published =
           let turned : Turned Value Change = record { world = world_in old; call = running_seen call; world_after = world_in new; call_after = running_seen after } in
           record {
             call_after = running_seen after;
             gave = gave;
             turn = steps.turn;
-            spares = spares_by (begin turned) steps.turn.effect told may.planned may.fuses steps.turn.effect.folder steps.turn.comes.used;
+            spares = spares_by (begin turned) steps.turn.effect told spares steps.turn.effect.folder steps.turn.comes.used;
             now = is;
             kept = published;
           }

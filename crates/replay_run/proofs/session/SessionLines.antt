@@ -34,7 +34,6 @@ module _ (session : RunningSession) (place : ℕ) (client after : own.Client) (t
   asking_keeps keeps =
       record {
         state = asks_keep (rules_in session.shelf) (store_in session.shelf) place (task_seen task) (state_in session) (state_in now) asks_now keeps.state;
-        spare = keeps.spare;
         number = keeps.number;
         nodes =
             all_set (λ (x : own.Client). is_among x.node (store_in session.shelf).nodes ≡ true) session.clients.items place after

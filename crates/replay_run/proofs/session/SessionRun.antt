@@ -28,7 +28,7 @@ use Rattle.replay_run.specs.SessionSteps.{CanFollow, IsOpened}
 use Rattle.replay_run.specs.SessionView.{client_seen, state_in, store_in}
 use Rattle.replay_run.specs.Settings.{PrefStore}
 use Rattle.replay_run.specs.Start.{new_client, start_of}
-use Rattle.replay_run.proofs.truth.GoodRun.{good_session, one_plan, plain, unstopped}
+use Rattle.replay_run.proofs.truth.GoodRun.{good_session, one_plan, unstopped}
 
 pub if_both : {X E : Type 0} {P Q R : X → Type 0} (r : Result X E) → IfOk r P → IfOk r Q → ((x : X) → P x → Q x → R x) → IfOk r R
 if_both (Ok x) p q both = both x p q
@@ -36,22 +36,22 @@ if_both (Err e) p q both = tt
 
 module _ (script : Script) (kept : Keeps script) (plan : SessionPlan) (planned : script.sessions ≡ plan ∷ []) where
   -- each line is of a client that the session has
-  pub lines_fit : (session : RunningSession) → IsOpened script session → All (CanFollow (vec_len session.clients)) plan.lines
+  pub lines_fit : (session : RunningSession) → IsOpened script plan session → All (CanFollow (vec_len session.clients)) plan.lines
   lines_fit session opened k d within =
       let keeps : KeepsPlan script plan = All-head (KeepsPlan script) plan [] (subst (λ plans. All (KeepsPlan script) plans) planned kept.sessions.plans) in
       let built : All (λ line. IsBuiltAct line.act) plan.lines = subst (λ (plan : SessionPlan). All (λ line. IsBuiltAct line.act) plan.lines) (one_plan script kept plan planned) kept.built.acts in
-      let many : length (state_in session).clients ≡ length script.homes = ap (λ (state : RunState). length state.clients) (opened.start plan (plain script kept plan planned)) ∙ (length-map (enumerate_from 0 script.homes) (λ placed. new_client [] placed.0 placed.1) ∙ length-enumerate_from 0 script.homes) in
+      let many : length (state_in session).clients ≡ length script.homes = ap (λ (state : RunState). length state.clients) opened.start ∙ (length-map (enumerate_from 0 script.homes) (λ placed. new_client [] placed.0 placed.1) ∙ length-enumerate_from 0 script.homes) in
       record { declared = (let declared = (keeps.runs k d within).declared in let each = kept.homes.one_each in let seen = length-map session.clients.items client_seen in let counted = session.clients.ok.0 in omega (arith, declared, each, many, seen, counted)); act = built k d within }
 
   module _ (told : SessionSeen) where
     abbrev c : Chapter
     c = first_chapter prefs_basis script plan told
 
-    module _ (start followed end : RunningSession) (opened : IsOpened script start) (follows : FollowsAll prefs_basis.rules (store_in start.shelf) plan.lines (state_in start) (state_in followed))
+    module _ (start followed end : RunningSession) (opened : IsOpened script plan start) (follows : FollowsAll prefs_basis.rules (store_in start.shelf) plan.lines (state_in start) (state_in followed))
         (finishes : Finishes prefs_basis.rules (store_in followed.shelf) (state_in followed) (state_in end)) (keeps : SessionInvariant end) (first_store : store_in followed.shelf ≡ store_in start.shelf)
         (last_store : store_in end.shelf ≡ store_in followed.shelf) (tells : Tells prefs_basis told (state_in end)) (base : told.base ≡ (store_in end.shelf).base) where
       first : store_in start.shelf ≡ c.store
-      first = opened.store plan told (plain script kept plan planned) (base ∙ ap (λ (s : PrefStore). s.base) (last_store ∙ first_store))
+      first = opened.store told (base ∙ ap (λ (s : PrefStore). s.base) (last_store ∙ first_store))
 
       last : store_in end.shelf ≡ c.store
       last = last_store ∙ (first_store ∙ first)
@@ -59,7 +59,7 @@ module _ (script : Script) (kept : Keeps script) (plan : SessionPlan) (planned :
       follows_here : FollowsAll prefs_basis.rules c.store plan.lines (start_of [] (tally_of c.store.folder.count plan) c.store script.homes) (state_in followed)
       follows_here =
           subst (λ s. FollowsAll prefs_basis.rules s plan.lines (start_of [] (tally_of s.folder.count plan) s script.homes) (state_in followed)) first
-          (subst (λ state. FollowsAll prefs_basis.rules (store_in start.shelf) plan.lines state (state_in followed)) (opened.start plan (plain script kept plan planned)) follows)
+          (subst (λ state. FollowsAll prefs_basis.rules (store_in start.shelf) plan.lines state (state_in followed)) opened.start follows)
 
       ends_here : EndsBy prefs_basis.rules c.store plan.stop (state_in followed) (state_in end)
       ends_here =

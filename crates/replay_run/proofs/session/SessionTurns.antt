@@ -11,7 +11,6 @@ use Rattle.store_traits.specs.declared.ids.ClientId.{ClientId}
 use Rattle.store_traits.specs.declared.ids.NodeId.{NodeId}
 use Rattle.store_traits.specs.declared.transform.Transform as transform_trait
 use Rattle.folder_disk.specs.declared.folder.Folder as folder_trait
-use Rattle.folder_disk.specs.declared.mem_folder.MemFolder.{MemFolder}
 use Rattle.hist_journal.specs.Folds.{edition_of, raises_of}
 use Rattle.prefs_model.specs.declared.pref_map.PrefMap.{the_code}
 use Rattle.prefs_model.specs.Map.{IsMap}
@@ -45,10 +44,9 @@ use Rattle.replay_run.specs.RunningSteps.{origin_of}
 use Rattle.replay_run.specs.RunState.{Client, NodeView, call_now}
 use Rattle.replay_run.specs.SessionInvariant.{SessionInvariant}
 use Rattle.replay_run.specs.SessionView.{EquippedIn, client_seen, rules_in, running_seen, state_in, store_in, view_in, world_in}
-use Rattle.replay_run.specs.Settings.{Change, PrefCall, PrefStore, PrefWorld, Value}
+use Rattle.replay_run.specs.Settings.{Change, PrefCall, PrefStore, PrefWorld, ScriptFolder, Value}
 use Rattle.replay_run.specs.Steps.{ClientSteps, StepsAt}
 use Rattle.replay_run.proofs.keeping.CallKept.{call_kept}
-use Rattle.replay_run.proofs.keeping.Peaceful.{is_peaceful}
 use Rattle.replay_run.proofs.keeping.StepCases.{StepCase, looks, rests, step_case, turns}
 use Rattle.replay_run.proofs.keeping.StepsKeep.{steps_keep}
 use Rattle.replay_run.proofs.kept.PlansKept.{reads_fresh}
@@ -81,15 +79,15 @@ module _ (w w_after : PrefWorld) (call : PrefCall) where
       subst (λ now. Between call w now) (sym same)
       (record { more = []; grew = sym (append-nil w.history); others = refl; numbers = refl; told = refl; held = λ holds. inl (record { owner = refl; scratch = λ told. refl; outer = refl }) })
 
-module _ {c : codec_trait.Ghosts PrefsCodec Value} {t : transform_trait.Ghosts Change Value} {f : folder_trait.Ghosts MemFolder} where
+module _ {c : codec_trait.Ghosts PrefsCodec Value} {t : transform_trait.Ghosts Change Value} {f : folder_trait.Ghosts ScriptFolder} where
   -- the call has what its next step needs
-  abbrev IsEquipped : Shelf (PrefsParts MemFolder) PrefsCodec Change MemFolder Value c t f → Running → Type 0
+  abbrev IsEquipped : Shelf (PrefsParts ScriptFolder) PrefsCodec Change ScriptFolder Value c t f → Running → Type 0
   IsEquipped shelf call = Equipped c t f (running_seen call).at (shelf_seen shelf)
 
-  abbrev RoomStays : (old new : Shelf (PrefsParts MemFolder) PrefsCodec Change MemFolder Value c t f) → Type 0
+  abbrev RoomStays : (old new : Shelf (PrefsParts ScriptFolder) PrefsCodec Change ScriptFolder Value c t f) → Type 0
   RoomStays old new = KeepsRoom c t f (shelf_seen old) (shelf_seen new)
 
-module _ {c : codec_trait.Ghosts PrefsCodec Value} {t : transform_trait.Ghosts Change Value} {f : folder_trait.Ghosts MemFolder} (old new : Shelf (PrefsParts MemFolder) PrefsCodec Change MemFolder Value c t f) (codec : new.codec ≡ old.codec) (store : store_in new ≡ store_in old) where
+module _ {c : codec_trait.Ghosts PrefsCodec Value} {t : transform_trait.Ghosts Change Value} {f : folder_trait.Ghosts ScriptFolder} (old new : Shelf (PrefsParts ScriptFolder) PrefsCodec Change ScriptFolder Value c t f) (codec : new.codec ≡ old.codec) (store : store_in new ≡ store_in old) where
   -- a call that others left what it has is equipped as before
   equipped_on : (call : Running) → Knows (rules_in old) (store_in old) (world_in old) (running_seen call) → Between (running_seen call) (world_in old) (world_in new)
       → (is_holding (running_seen call).at ≡ true → RoomStays old new) → IsEquipped old call → IsEquipped new call
@@ -105,13 +103,10 @@ seen_at session place x is = slice_get-map client_seen session.clients.items pla
 -- a client of the session may go
 pub may_go : (session : RunningSession) (place : ℕ) (client : own.Client) → slice_get session.clients.items place ≡ Some client → SessionInvariant session → MayGo client session.shelf
 may_go session place client found keeps =
-    let peace = is_peaceful (store_in session.shelf) refl keeps.spare (rules_in session.shelf) (state_in session) keeps.state in
     record {
       node = all_found (λ (x : own.Client). is_among x.node (store_in session.shelf).nodes ≡ true) session.clients.items place client found keeps.nodes;
       call = call_kept (rules_in session.shelf) (store_in session.shelf) (state_in session) place (client_seen client) (seen_at session place client found) keeps.state;
       equipped = all_found (λ x. EquippedIn session.shelf x) session.clients.items place client found keeps.equipped;
-      planned = peace.planned;
-      fuses = peace.fuses;
     }
 
 -- its node has a cache
@@ -198,8 +193,7 @@ module _ (old new : RunningSession) (place : ℕ) (client after : own.Client) (f
           record {
             state =
                 subst (λ (s : PrefStore). RunInvariant (rules_in new.shelf) s (state_in new)) (sym store)
-                (steps_keep (rules_in old.shelf) (store_in old.shelf) refl keeps.spare place (state_in old) (state_in new) steps_at (reads_well old) keeps.state);
-            spare = ap (λ (s : PrefStore). s.folder.most) store ∙ keeps.spare;
+                (steps_keep (rules_in old.shelf) (store_in old.shelf) refl place (state_in old) (state_in new) steps_at (reads_well old) keeps.state);
             number = number;
             nodes =
                 subst (λ (s : PrefStore). at_home new.clients.items s) (sym store)

@@ -1,13 +1,11 @@
 -- The shelf of a script's first session, and the session that begins with it.
-use Rattle.std.proofs.Common.{◌≡◌, ◌∙◌, ◌<◌, ℕ, true, false, All, List, [], ◌∷◌, length, map, Option, Some, None, refl, sym, ap, subst, arith}
-use Rattle.std.proofs.lemmas.List.Elements.{All-weaker}
+use Rattle.std.proofs.Common.{◌≡◌, ◌∙◌, ◌<◌, ℕ, true, false, All, List, [], ◌∷◌, length, map, Option, None, refl, sym, ap, subst, arith}
+use Rattle.std.proofs.lemmas.List.Elements.{All-head, All-weaker}
 use Rattle.std.proofs.lemmas.List.FromFn.{length-map-range_with_len}
 use Rattle.store_traits.specs.declared.ids.NodeId.{NodeId}
 use Rattle.folder_disk.specs.Contents.{Contents, Gone, Images, Starts}
-use Rattle.folder_disk.specs.contracts.mem_folder.MemFolderFolder.TheImpl as folder
-use Rattle.folder_disk.specs.declared.mem_folder.MemFolder.{MemFolder}
 use Rattle.folder_disk.specs.MainRead.{main_of}
-use Rattle.folder_disk.specs.MemFolder as mem
+use Rattle.folder_disk.specs.MemFolder.{fresh_contents}
 use Rattle.folder_disk.specs.Tally.{StartsTally, Tally, most_of}
 use Rattle.hist_journal.specs.declared.seen.BaseSeen.{BaseSeen}
 use Rattle.hist_journal.specs.Folds.{raises_of}
@@ -25,7 +23,8 @@ use Rattle.value_cache.specs.Cached.{kept_seen}
 use Rattle.script_lang.specs.declared.plan.script.Script.{Script}
 use Rattle.script_lang.specs.declared.plan.session_plan.SessionPlan.{SessionPlan}
 use Rattle.script_lang.specs.Chronicle.{due_of, nodes_of, tally_of}
-use Rattle.script_lang.specs.Keeps.{IsPlain, Keeps}
+use Rattle.script_lang.specs.Keeps.{Keeps, KeepsPlan}
+use Rattle.script_lang.specs.SessionPlans.{IsWhole}
 use Rattle.replay_run.specs.declared.client.Client as own
 use Rattle.replay_run.specs.declared.prefs_parts.PrefsParts.{PrefsParts}
 use Rattle.replay_run.specs.declared.running_session.RunningSession.{RunningSession}
@@ -36,31 +35,35 @@ use Rattle.replay_run.specs.RunState.{RunState}
 use Rattle.replay_run.specs.SessionInvariant.{SessionInvariant}
 use Rattle.replay_run.specs.SessionSteps.{IsOpened, IsStoreOf}
 use Rattle.replay_run.specs.SessionView.{EquippedIn, rules_in, state_in, store_in, world_in}
-use Rattle.replay_run.specs.Settings.{Change, PrefStore, Value}
+use Rattle.replay_run.specs.Settings.{Change, PrefStore, ScriptFolder, Value}
 use Rattle.replay_run.specs.ShelfOpens.{ShelfOpens, first_nodes, with_nodes}
 use Rattle.replay_run.specs.Start.{start_of, world_of}
+use Rattle.replay_run.proofs.keeping.Failures.{plan_fails_within}
 use Rattle.replay_run.proofs.keeping.StepsKeep.{start_keeps}
+use Rattle.replay_run.proofs.session.ScriptGhosts.{ghosts}
 use Rattle.replay_run.proofs.session.OpeningLemmas.{among_first, homes_are, nodes_numbered}
 
+abbrev contents_of : ScriptFolder → Contents
+contents_of = ghosts.contents
+
+abbrev tally_in : ScriptFolder → Tally
+tally_in = ghosts.tally
+
 abbrev SettingsShelf : Type 0
-SettingsShelf = Shelf (PrefsParts MemFolder) PrefsCodec Change MemFolder Value codec.ghosts edit.ghosts folder.ghosts
+SettingsShelf = Shelf (PrefsParts ScriptFolder) PrefsCodec Change ScriptFolder Value codec.ghosts edit.ghosts ghosts
 
 abbrev Seen : Type 0
-Seen = ShelfSeen PrefsCodec MemFolder Value Change
+Seen = ShelfSeen PrefsCodec ScriptFolder Value Change
 
 no_raise : raises_of {V = Value} {T = Change} [] ≡ 0
 unfolding raises_of
 no_raise = refl
 
--- a plain plan lets no call of the folder fail
-none_planned : (plan : SessionPlan) → IsPlain plan → most_of 0 (due_of plan) ≡ Some 0
-none_planned plan plain = ap (λ (plan : SessionPlan). most_of 0 (due_of plan)) plain
-
--- the shelf is that of a new folder, which has the script's file
-module _ (script : Script) (unreplaced : script.start.replace ≡ false) (shelf : SettingsShelf) (first : MemFolder) (base : BaseSeen Value)
-    (opens : Opens true (mem.contents_of first) (mem.tally_of first) 1048576 (record { entries = script.start.entries; weight = 268435456 }) base (shelf_seen shelf)) (starts : Starts (mem.contents_of first) (mem.contents_of shelf.folder))
-    (tallies : StartsTally true (mem.tally_of first) (mem.tally_of shelf.folder)) (contents : mem.contents_of first ≡ mem.fresh_contents (main_of script.start.file)) (tally : mem.tally_of first ≡ mem.fresh_tally [])
-    (reads : ReadsAs Reads [] 1048576 (mem.contents_of first).main base) where
+-- the shelf is that of a new folder, which has the script's file and fails by the plan
+module _ (script : Script) (plan : SessionPlan) (whole : IsWhole plan) (unreplaced : script.start.replace ≡ false) (shelf : SettingsShelf) (first : ScriptFolder) (base : BaseSeen Value)
+    (opens : Opens true (contents_of first) (tally_in first) 1048576 (record { entries = script.start.entries; weight = 268435456 }) base (shelf_seen shelf)) (starts : Starts (contents_of first) (contents_of shelf.folder))
+    (tallies : StartsTally true (tally_in first) (tally_in shelf.folder)) (contents : contents_of first ≡ fresh_contents (main_of script.start.file)) (tally : tally_in first ≡ tally_of 0 plan)
+    (reads : ReadsAs Reads [] 1048576 (contents_of first).main base) where
   abbrev s : PrefStore
   s = store_in shelf
 
@@ -70,43 +73,42 @@ module _ (script : Script) (unreplaced : script.start.replace ≡ false) (shelf 
   count_is : s.folder.count ≡ 0
   count_is = opens.count ∙ ap (λ (t : Tally). t.count) tally
 
-  none_is : s.folder.most ≡ Some 0
-  none_is = tallies.most refl ∙ ap (λ (t : Tally). most_of t.count t.due) tally
+  -- what bounds the count is told as the folder begins
+  most_is : s.folder.most ≡ most_of 0 (due_of plan)
+  most_is = tallies.most refl ∙ ap (λ (t : Tally). most_of t.count t.due) tally
 
   -- a stop could leave nothing but main
-  kept_alone : (mem.contents_of first).kept ≡ Images ((mem.contents_of first).main ∷ [])
+  kept_alone : (contents_of first).kept ≡ Images ((contents_of first).main ∷ [])
   kept_alone = ap (λ (c : Contents). c.kept) contents ∙ ap (λ (main : Option (List ℕ)). Images (main ∷ [])) (sym (ap (λ (c : Contents). c.main) contents))
 
   -- main stands alone there, as it did in the new folder; the tally is that folder's
-  world_starts : (plan : SessionPlan) → IsPlain plan → world_in shelf ≡ world_of (tally_of s.folder.count plan) s
-  world_starts plan plain =
-      let now : Contents = mem.contents_of shelf.folder in
+  world_starts : world_in shelf ≡ world_of (tally_of s.folder.count plan) s
+  world_starts =
+      let now : Contents = contents_of shelf.folder in
       let main : now.main ≡ s.main = starts.main ∙ sym (opens.main refl) in
       let scratch : now.scratch ≡ Gone = starts.scratch ∙ ap (λ (c : Contents). c.scratch) contents in
       let kept : now.kept ≡ Images (s.main ∷ []) = starts.kept ∙ (kept_alone ∙ ap (λ (main : Option (List ℕ)). Images (main ∷ [])) (sym (opens.main refl))) in
       let first_main : now.first ≡ s.main = starts.first ∙ sym (opens.main refl) in
       let alone : now.alone ≡ true = starts.alone.1 kept_alone in
-      let fresh : (mem.tally_of first).due ≡ due_of plan = ap (λ (t : Tally). t.due) tally ∙ sym (ap due_of plain) in
-      let count : (mem.tally_of shelf.folder).count ≡ s.folder.count = tallies.count ∙ sym opens.count in
-      let due : (mem.tally_of shelf.folder).due ≡ due_of plan = tallies.due refl ∙ fresh in
-      let most : (mem.tally_of shelf.folder).most ≡ most_of s.folder.count (due_of plan) =
-      tallies.most refl ∙ (ap (λ (n : ℕ). most_of n (mem.tally_of first).due) (sym opens.count) ∙ ap (most_of s.folder.count) fresh) in
+      let count : (tally_in shelf.folder).count ≡ s.folder.count = tallies.count ∙ sym opens.count in
+      let due : (tally_in shelf.folder).due ≡ due_of plan = tallies.due refl ∙ ap (λ (t : Tally). t.due) tally in
+      let most : (tally_in shelf.folder).most ≡ most_of s.folder.count (due_of plan) =
+      tallies.most refl ∙ (ap (λ (t : Tally). most_of t.count t.due) tally ∙ ap (λ (n : ℕ). most_of n (due_of plan)) (sym count_is)) in
       rw (main, scratch, kept, first_main, alone, count, most, due, opens.owner, opens.list, no_raise) refl
 
   based : HasItsBase Reads [] s
   based = rw (opens.file, opens.main refl, opens.base_now) reads
 
-  stores : IsStoreOf prefs_basis script (record s { nodes = nodes_of script })
-  stores plan told plain same =
-      let deaths : plan.deaths ≡ [] = ap (λ (p : SessionPlan). p.deaths) plain in
+  stores : IsStoreOf prefs_basis script plan (record s { nodes = nodes_of script })
+  stores told same =
       let alone : s.alone ≡ true = (opens.alone refl).1 kept_alone in
-      rw (same, unreplaced, opens.file, opens.history, deaths, main_is, count_is, none_is, none_planned plan plain, alone) refl
+      rw (same, unreplaced, opens.file, opens.history, whole.deaths, main_is, count_is, most_is, alone) refl
 
-  pub shelf_opens : ShelfOpens prefs_basis script shelf
-  shelf_opens = record { starts = world_starts; base = based; count = count_is; spare = none_is; nodes = opens.nodes; store = stores }
+  pub shelf_opens : ShelfOpens prefs_basis script plan shelf
+  shelf_opens = record { starts = world_starts; base = based; count = count_is; most = most_is; nodes = opens.nodes; store = stores }
 
 -- the nodes are added, and there are new clients
-module _ (script : Script) (session : RunningSession) (first : SettingsShelf) (count : ℕ) (keeps : Keeps script) (opens : ShelfOpens prefs_basis script first)
+module _ (script : Script) (plan : SessionPlan) (session : RunningSession) (first : SettingsShelf) (count : ℕ) (keeps : Keeps script) (planned : script.sessions ≡ plan ∷ []) (opens : ShelfOpens prefs_basis script plan first)
     (added : shelf_seen session.shelf ≡ with_nodes (shelf_seen first) (first_nodes count)) (counted : count ≡ length script.names.nodes) (new : AreNew script.homes session.clients.items)
     (empty : map kept_seen session.caches.items ≡ map (λ node. None) (first_nodes count)) (unused : session.word ≡ 0) where
   abbrev store : PrefStore
@@ -115,14 +117,11 @@ module _ (script : Script) (session : RunningSession) (first : SettingsShelf) (c
   seen : shelf_seen session.shelf ≡ with_nodes (shelf_seen first) (nodes_of script)
   seen = added ∙ ap (λ (nodes : List NodeId). with_nodes (shelf_seen first) nodes) (ap first_nodes counted ∙ sym (nodes_numbered 0 script.names.nodes))
 
-  spare : store.folder.most ≡ Some 0
-  spare = ap (λ (s : Seen). s.store.folder.most) seen ∙ opens.spare
-
-  starts_now : (plan : SessionPlan) → IsPlain plan → state_in session ≡ start_of [] (tally_of store.folder.count plan) store script.homes
-  starts_now plan plain =
+  starts_now : state_in session ≡ start_of [] (tally_of store.folder.count plan) store script.homes
+  starts_now =
       let caches : map kept_seen session.caches.items ≡ map (λ node. None) store.nodes = empty ∙ ap (λ (s : Seen). map (λ node. None) s.store.nodes) (sym added) in
       let world : world_in session.shelf ≡ world_of (tally_of store.folder.count plan) store =
-      subst (λ (s : Seen). world_seen folder.ghosts s ≡ world_of (tally_of s.store.folder.count plan) s.store) (sym seen) (opens.starts plan plain) in
+      subst (λ (s : Seen). world_seen ghosts s ≡ world_of (tally_of s.store.folder.count plan) s.store) (sym seen) opens.starts in
       rw (world, caches, new.seen) refl
 
   at_home : All (λ (home : NodeId). is_among home store.nodes ≡ true) script.homes
@@ -136,22 +135,26 @@ module _ (script : Script) (session : RunningSession) (first : SettingsShelf) (c
       let many : length store.nodes ≡ length script.names.nodes = ap (λ (s : Seen). length s.store.nodes) added ∙ (length-map-range_with_len (λ number. record { 0 = number }) 0 count ∙ counted) in
       subst (λ n. All (λ (home : NodeId). home.0 < n) script.homes) (sym many) keeps.homes.declared
 
+  none_failed : store.folder.count ≡ 0
+  none_failed = ap (λ (s : Seen). s.store.folder.count) seen ∙ opens.count
+
+  -- the plan bounds what fails
+  most_now : store.folder.most ≡ most_of store.folder.count (due_of plan)
+  most_now = ap (λ (s : Seen). s.store.folder.most) seen ∙ (opens.most ∙ ap (λ (n : ℕ). most_of n (due_of plan)) (sym none_failed))
+
   session_keeps : SessionInvariant session
   session_keeps =
-      let plan : SessionPlan = keeps.built.plan in
-      let start : state_in session ≡ start_of [] (tally_of store.folder.count plan) store script.homes = starts_now plan keeps.built.plain in
-      let none : store.folder.count ≡ 0 = ap (λ (s : Seen). s.store.folder.count) seen ∙ opens.count in
+      let kept : KeepsPlan script plan = All-head (KeepsPlan script) plan [] (subst (λ plans. All (KeepsPlan script) plans) planned keeps.sessions.plans) in
       record {
         state =
-            subst (RunInvariant (rules_in session.shelf) store) (sym start)
-            (start_keeps (rules_in session.shelf) store spare [] (tally_of store.folder.count plan) script.homes refl (rw none (none_planned plan keeps.built.plain ∙ sym spare)) numbers_at_home);
-        spare = spare;
-        number = unused ∙ sym (ap (λ (state : RunState). state.shared.world.version) start);
+            subst (RunInvariant (rules_in session.shelf) store) (sym starts_now)
+            (start_keeps (rules_in session.shelf) store [] (tally_of store.folder.count plan) script.homes refl (plan_fails_within store plan (rw none_failed omega arith) most_now kept.faults) numbers_at_home);
+        number = unused ∙ sym (ap (λ (state : RunState). state.shared.world.version) starts_now);
         nodes = homes_are (λ (home : NodeId). is_among home store.nodes ≡ true) session.clients.items script.homes new.seen at_home;
         equipped =
             All-weaker (λ (client : own.Client). client.running ≡ None) (λ (client : own.Client). EquippedIn session.shelf client)
             (λ client none. rw none tt) session.clients.items new.rest;
       }
 
-  pub is_opened : IsOpened script session
-  is_opened = record { start = starts_now; store = subst (λ (s : Seen). IsStoreOf prefs_basis script s.store) (sym seen) opens.store; keeps = session_keeps }
+  pub is_opened : IsOpened script plan session
+  is_opened = record { start = starts_now; store = subst (λ (s : Seen). IsStoreOf prefs_basis script plan s.store) (sym seen) opens.store; keeps = session_keeps }

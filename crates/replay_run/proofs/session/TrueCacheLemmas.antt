@@ -6,7 +6,6 @@ use Rattle.store_traits.specs.declared.ids.NodeId.{NodeId}
 use Rattle.store_traits.specs.declared.codec.Codec as codec_trait
 use Rattle.store_traits.specs.declared.transform.Transform as transform_trait
 use Rattle.folder_disk.specs.declared.folder.Folder as folder_trait
-use Rattle.folder_disk.specs.declared.mem_folder.MemFolder.{MemFolder}
 use Rattle.prefs_proto.specs.declared.prefs_codec.PrefsCodec.{PrefsCodec}
 use Rattle.shelf.specs.declared.shelf.Shelf.{Shelf}
 use Rattle.shelf.specs.ShelfSeen.{shelf_seen}
@@ -22,7 +21,7 @@ use Rattle.replay_run.specs.declared.prefs_parts.PrefsParts.{PrefsParts}
 use Rattle.replay_run.specs.declared.running.Running.{Running}
 use Rattle.replay_run.specs.RunningSteps.{CallSteps, kept_of, origin_of}
 use Rattle.replay_run.specs.SessionView.{rules_in, running_seen, store_in}
-use Rattle.replay_run.specs.Settings.{Change, Value}
+use Rattle.replay_run.specs.Settings.{Change, ScriptFolder, Value}
 use Rattle.replay_run.specs.Steps.{kept_behind}
 use Rattle.replay_run.specs.TrueCaches.{IsTrueCache, StaysTrue}
 use Rattle.replay_run.proofs.keeping.KeptBehind.{kept_true}
@@ -35,9 +34,9 @@ first_is x y xs ys is = cc
 rest_is : {X : Type 0} (x y : X) (xs ys : List X) → x ∷ xs ≡ y ∷ ys → xs ≡ ys
 rest_is x y xs ys is = cc
 
-module _ {c : codec_trait.Ghosts PrefsCodec Value} {t : transform_trait.Ghosts Change Value} {f : folder_trait.Ghosts MemFolder} where
+module _ {c : codec_trait.Ghosts PrefsCodec Value} {t : transform_trait.Ghosts Change Value} {f : folder_trait.Ghosts ScriptFolder} where
   -- caches that keep nothing are true
-  pub none_kept : (shelf : Shelf (PrefsParts MemFolder) PrefsCodec Change MemFolder Value c t f) (caches : List (Cache Value)) (nodes : List NodeId) → map kept_seen caches ≡ map (λ node. None) nodes → All (IsTrueCache shelf) caches
+  pub none_kept : (shelf : Shelf (PrefsParts ScriptFolder) PrefsCodec Change ScriptFolder Value c t f) (caches : List (Cache Value)) (nodes : List NodeId) → map kept_seen caches ≡ map (λ node. None) nodes → All (IsTrueCache shelf) caches
   none_kept shelf [] nodes is = All-nil (IsTrueCache shelf)
   none_kept shelf (cache ∷ caches) [] is = absurd (cc)
   none_kept shelf (cache ∷ caches) (node ∷ nodes) is =
@@ -45,10 +44,10 @@ module _ {c : codec_trait.Ghosts PrefsCodec Value} {t : transform_trait.Ghosts C
       All-cons (IsTrueCache shelf) cache caches (rw empty tt) (none_kept shelf caches nodes (rest_is (kept_seen cache) None (map kept_seen caches) (map (λ node. None) nodes) is))
 
   -- where nothing happens
-  pub stays_same : (shelf : Shelf (PrefsParts MemFolder) PrefsCodec Change MemFolder Value c t f) (cache : Cache Value) → StaysTrue shelf shelf cache cache
+  pub stays_same : (shelf : Shelf (PrefsParts ScriptFolder) PrefsCodec Change ScriptFolder Value c t f) (cache : Cache Value) → StaysTrue shelf shelf cache cache
   stays_same shelf cache = record { more = []; grew = sym (append-nil (shelf_seen shelf).list); base = refl; stays = λ was. was }
 
-  module _ (old new : Shelf (PrefsParts MemFolder) PrefsCodec Change MemFolder Value c t f) where
+  module _ (old new : Shelf (PrefsParts ScriptFolder) PrefsCodec Change ScriptFolder Value c t f) where
     module _ (cache cache_after : Cache Value) (call after : Running) (gave : Progress (Reply Value)) (steps : CallSteps call old gave after new) where
       -- behind a turn that publishes what is of the history by then
       pub turn_stays : kept_seen cache_after ≡ kept_behind (kept_seen cache) (kept_of after) → IfSome (kept_of after) (IsValueOf t.after (store_in new).base (shelf_seen new).list) → StaysTrue old new cache cache_after

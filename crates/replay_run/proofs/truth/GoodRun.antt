@@ -1,43 +1,49 @@
 -- The transcript of a run tells the truth of its script.
-use Rattle.std.proofs.Common.{◌≡◌, ◌∙◌, List, [], ◌∷◌, length, Some, None, refl, sym, ap, subst, arith}
+use Rattle.std.proofs.Common.{◌≡◌, ◌∙◌, ◌≤◌, List, [], ◌∷◌, length, sum_by, None, refl, sym, ap, subst, arith}
+use Rattle.std.proofs.lemmas.List.Sums.{sum_by-cons}
 use Rattle.script_lang.specs.Chronicle.{Basis, Chapter, tally_of}
 use Rattle.script_lang.specs.Good.{Good, Scripted, chapters_of}
-use Rattle.script_lang.specs.Keeps.{IsPlain, Keeps}
+use Rattle.script_lang.specs.Keeps.{Keeps}
 use Rattle.script_lang.specs.declared.plan.script.Script.{Script}
 use Rattle.script_lang.specs.declared.plan.session_plan.SessionPlan.{SessionPlan}
 use Rattle.script_lang.specs.declared.transcripts.transcript.Transcript.{Transcript}
+use Rattle.script_lang.specs.SessionPlans.{IsWhole, lines_in}
 use Rattle.script_lang.specs.TranscriptView.{SessionSeen}
 use Rattle.script_lang.proofs.GoodChapters.{ChapterIsGood, good_of_one, one_chapter}
 use Rattle.replay_run.specs.EndInvariant.{EndInvariant}
 use Rattle.replay_run.specs.Rounds.{EndsBy, Finishes}
 use Rattle.replay_run.specs.ScriptRun.{IsPlayed, Runs}
 use Rattle.replay_run.specs.SessionPlayed.{IsPlayedWell, first_chapter}
-use Rattle.replay_run.proofs.keeping.Peaceful.{is_peaceful}
+use Rattle.replay_run.proofs.keeping.Living.{is_living}
 use Rattle.replay_run.proofs.truth.Told.{EndsWell}
 use Rattle.replay_run.proofs.truth.Rules.{chapter_good, none_of_actors}
 use Rattle.replay_run.proofs.truth.Underway.{run_keeps}
 
--- the script's only session is plain
+-- no node dies in the script's only session, and no stop ends it
 module _ (script : Script) (kept : Keeps script) (plan : SessionPlan) (planned : script.sessions ≡ plan ∷ []) where
   pub one_plan : kept.built.plan ≡ plan
   one_plan = let same : kept.built.plan ∷ [] ≡ plan ∷ [] = sym kept.built.only ∙ planned in cc
 
-  pub plain : IsPlain plan
-  plain = subst (λ plan. IsPlain plan) one_plan kept.built.plain
+  pub whole : IsWhole plan
+  whole = subst (λ plan. IsWhole plan) one_plan kept.built.whole
 
   pub unstopped : plan.stop ≡ None
-  unstopped = ap (λ (plan : SessionPlan). plan.stop) plain
+  unstopped = whole.stop
+
+  few : length plan.folder_faults ≤ 100000
+  few =
+      let lines = kept.sessions.few in
+      let all : sum_by lines_in (plan ∷ []) ≤ 100000 = rw planned at lines in
+      omega (arith, all, sum_by-cons lines_in plan [])
 
   module _ (b : Basis) (told : SessionSeen) where
     abbrev c : Chapter
     c = first_chapter b script plan told
 
-    -- nothing is planned, so the session goes to its end
+    -- so the session goes to its end
     ends_well : IsPlayedWell b script plan told → EndsWell b script c
     ends_well it =
         let played = it.played in
-        let unplanned : plan.deaths ≡ [] = ap (λ (plan : SessionPlan). plan.deaths) plain in
-        let most : c.store.folder.most ≡ Some 0 = rw plain refl in
         let finishes : Finishes b.rules c.store played.between played.end = subst (λ stop. EndsBy b.rules c.store stop played.between played.end) unstopped played.ends in
         record {
           end = played.end;
@@ -45,8 +51,10 @@ module _ (script : Script) (kept : Keeps script) (plan : SessionPlan) (planned :
           over = finishes.over;
           tells = played.tells;
           underway = run_keeps script.homes plan.lines b.rules c.store (tally_of 0 plan) played.between played.end played.follows finishes;
-          peaceful = is_peaceful c.store unplanned most b.rules played.end it.ends.state;
-          unplanned = unplanned;
+          living = is_living c.store whole.deaths b.rules played.end it.ends.state;
+          unplanned = whole.deaths;
+          folder = refl;
+          few = few;
           asked = refl;
           one_each = kept.homes.one_each;
         }
@@ -68,6 +76,6 @@ good_end b script transcript kept runs ends = by_told transcript.sessions refl (
     by_told (told ∷ next ∷ more) tells one = absurd (omega (arith, one))
     by_told (told ∷ []) tells one =
         let plan = kept.built.plan in
-        let is : chapters_of b Scripted script transcript ≡ first_chapter b script plan told ∷ [] = one_chapter b script plan told transcript runs.names kept.built.only (unstopped script kept plan kept.built.only) tells in
+        let is : chapters_of b Scripted script transcript ≡ first_chapter b script plan told ∷ [] = one_chapter b script plan told transcript runs.names kept.built.only kept.built.whole.stop tells in
         let played = runs.played [] (first_chapter b script plan told) [] is in
         good_session script kept plan kept.built.only b told transcript runs.names tells (record { played = played; ends = ends told played })

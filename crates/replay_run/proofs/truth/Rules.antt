@@ -1,30 +1,27 @@
 -- What the rules ask of the only session of a script, which goes well to its end.
-use Rattle.std.proofs.Common.{◌≡◌, ◌∙◌, inl, inr, ◌+◌, ◌||◌, ℕ, nat_lt, Bool, true, false, List, [], ◌∷◌, ◌++◌, append_assoc, cond, All, Contains, Option, Some, None, IfSome, MatchOption, count_by, is_some, if◌then◌else◌, refl, sym, ap, subst, arith}
+use Rattle.std.proofs.Common.{◌≡◌, ◌∙◌, inl, inr, ◌≤◌, ◌+◌, ◌-◌, ◌^◌, ◌||◌, min, ℕ, nat_lt, Bool, true, false, List, [], ◌∷◌, ◌++◌, cond, length, All, Contains, Option, Some, None, IfSome, MatchOption, count_by, is_some, if◌then◌else◌, refl, sym, ap, subst, arith}
 use Rattle.std.specs.List.{filter, list_any}
-use Rattle.std.proofs.lemmas.Bool.{and_parts, and_right, ne_eqb, or_from}
+use Rattle.std.proofs.lemmas.Bool.{and_right, ne_eqb}
 use Rattle.std.proofs.lemmas.Bool.Decides.{nat_tests}
-use Rattle.std.proofs.lemmas.List.Elements.{All-append, All-cons}
 use Rattle.std.proofs.lemmas.List.Sums.{sum_by-cons}
 use Rattle.std.proofs.lemmas.Option.{slice_get_cases}
 use Rattle.store_traits.specs.declared.ids.CallId.{CallId}
 use Rattle.store_traits.specs.declared.read_error.ReadError.{ReadError}
 use Rattle.store_traits.specs.declared.update_error.UpdateError.{UpdateError}
-use Rattle.store_traits.specs.declared.ids.NodeId.{NodeId}
 use Rattle.store_traits.specs.declared.ids.ClientId.{ClientId}
-use Rattle.hist_journal.specs.Kinds.{is_call, is_death_of}
-use Rattle.hist_journal.specs.declared.seen.KindSeen.TheVariants.{Death, Fault, Restart, Synced}
+use Rattle.folder_disk.specs.Planned.{left_to_strike}
+use Rattle.folder_disk.proofs.OrderLemmas.{length_in_order}
+use Rattle.hist_journal.specs.Kinds.{is_call}
+use Rattle.hist_journal.specs.declared.seen.KindSeen.TheVariants.{Fault, Restart}
 use Rattle.hist_journal.specs.declared.device.Device.TheVariants.{Folder, Legacy}
 use Rattle.prefs_text.specs.EntryText.{PrefEntry, PrefKind}
 use Rattle.prefs_text.specs.declared.seen.AnswerLineSeen.{AnswerLineSeen}
 use Rattle.prefs_text.specs.declared.seen.AnswerSeen.{AnswerSeen}
 use Rattle.prefs_text.specs.declared.seen.AnswerSeen.TheVariants as seen
-use Rattle.shelf.specs.Entries.{is_any, is_death, is_own, is_update}
-use Rattle.shelf.specs.Acknowledged.{Carries, IsUpdated}
-use Rattle.shelf.specs.Causes.{IsDead, IsUncertain}
-use Rattle.shelf.specs.Images.{is_synced}
+use Rattle.shelf.specs.Entries.{is_death, is_own, is_update}
 use Rattle.shelf.specs.Places.{is_fault_of}
 use Rattle.shelf.specs.Base.{HasItsBase}
-use Rattle.shelf.proofs.Bools.{never, none_in_both, own_first}
+use Rattle.shelf.proofs.Bools.{never}
 use Rattle.shelf.proofs.RaiseLemmas.{none_of_fewer}
 use Rattle.shelf.proofs.SameCalls.{itself}
 use Rattle.script_lang.specs.AnswerForms.{answers, is_cut, read_error, update_error}
@@ -40,15 +37,15 @@ use Rattle.script_lang.specs.declared.plan.run_line.Act.{Act}
 use Rattle.script_lang.specs.declared.plan.run_line.Act.TheVariants as act
 use Rattle.script_lang.specs.declared.plan.script.Script.{Script}
 use Rattle.script_lang.specs.Good.{file_seen}
-use Rattle.script_lang.specs.GoodFailures.{IsPlanned, Spares}
+use Rattle.script_lang.specs.GoodFailures.{IsPlanned, Spares, faults_of}
 use Rattle.script_lang.proofs.GoodChapters.{ChapterIsGood}
-use Rattle.replay_run.specs.ClientInvariant.{IsExplained, IsReadExplained, IsUpdateExplained}
+use Rattle.replay_run.specs.ClientInvariant.{CarriesAsked, CarriesOwn, IsExplained, IsReadExplained, IsUpdateExplained}
 use Rattle.replay_run.specs.RunInvariant.{IsOfCall, is_later_work}
 use Rattle.replay_run.specs.RunState.{Client, call_at}
 use Rattle.replay_run.specs.Settings.{Change}
 use Rattle.replay_run.proofs.truth.Told.{EndsWell, IsTrueLine, answers_are, kept, none_stands, over, true_lines}
 use Rattle.replay_run.proofs.lists.StandLemmas.{Stands, all_at, contains_at, found_stands, stands_joined}
-use Rattle.replay_run.proofs.keeping.Peaceful.{dies, is_folder_fault}
+use Rattle.replay_run.proofs.keeping.Living.{dies, is_folder_fault}
 use Rattle.replay_run.proofs.lists.JoinedLemmas.{all_each}
 use Rattle.replay_run.proofs.truth.EachOnce.{each_once, filter_none}
 
@@ -74,14 +71,6 @@ later_fails (Fault Legacy count) none = never (sym none)
 later_fails (Fault Folder count) none = refl
 later_fails other none = refl
 
-death_of : (node : NodeId) (kind : PrefKind) → is_death kind ≡ false → is_death_of node kind ≡ false
-death_of node (Death other) none = never (sym none)
-death_of node other none = refl
-
-synced_updates : (kind : PrefKind) → is_synced kind ≡ true → is_update kind ≡ false
-synced_updates Synced is = refl
-synced_updates other is = never is
-
 counted : {X : Type 0} (p : X → Bool) (xs : List X) → list_any p xs ≡ nat_lt 0 (count_by p xs)
 counted p [] = refl
 counted p (x ∷ xs) = rw (sum_by-cons (λ x. cond (p x) 1 0) x xs) (by_test (p x) (counted p xs))
@@ -90,35 +79,12 @@ counted p (x ∷ xs) = rw (sum_by-cons (λ x. cond (p x) 1 0) x xs) (by_test (p 
     by_test true rest = grind (arith, nat_tests)
     by_test false rest = rw rest (grind (arith, nat_tests))
 
--- an acknowledged call has but one Edit or Same, which carries its edit
-module _ (call : CallId) (edit : Change) (edition : ℕ) (list : List PrefEntry) (it : IsUpdated call edit edition list) where
-  abbrev own : PrefEntry → Bool
-  own = is_own is_update call
-
-  abbrev CarriesIt : PrefEntry → Type 0
-  CarriesIt e = own e ≡ true → Carries edit e.kind
-
-  none_carry : (xs : List PrefEntry) → list_any own xs ≡ false → All CarriesIt xs
-  none_carry xs none = all_each CarriesIt [] xs (λ before e behind is mine. never (sym (none_stands own xs before behind e none is) ∙ mine))
-
-  updates_carry : All CarriesIt list
-  updates_carry =
-      let synced = it.synced in
-      let rest = synced.between ++ synced.second ∷ synced.behind in
-      let quiet = none_of_fewer own (is_own is_any call) synced.between (λ e none. own_first (is_call call e.who) (is_update e.kind) none) synced.next in
-      let closes = and_right (is_call call synced.second.who) (is_update synced.second.kind) (synced_updates synced.second.kind (and_parts (is_call call synced.second.who) (is_synced synced.second.kind) synced.closes).1) in
-      let none : list_any own rest ≡ false = none_in_both own synced.between (synced.second ∷ synced.behind) quiet (or_from (own synced.second) (list_any own synced.behind) closes it.none_behind) in
-      subst (λ xs. All CarriesIt xs) (sym synced.is) (All-append CarriesIt synced.before (synced.first ∷ rest) (none_carry synced.before it.none_before) (All-cons CarriesIt synced.first rest (λ mine. it.carried) (none_carry rest none)))
-
 module _ (b : Basis) (script : Script) (c : Chapter) (k : EndsWell b script c) where
   built : list_any (λ (e : PrefEntry). is_later_work e.kind) c.told.entries ≡ false
   built = rw k.tells.entries k.known.state.built
 
   deaths_none : list_any dies c.told.entries ≡ false
-  deaths_none = rw k.tells.entries k.peaceful.alive
-
-  faults_none : count_by is_folder_fault c.told.entries ≡ 0
-  faults_none = rw k.tells.entries k.peaceful.faults
+  deaths_none = rw k.tells.entries k.living.alive
 
   -- no call restarts a node
   restarts_none : (call : CallId) → has_restart call c.told.entries ≡ false
@@ -280,70 +246,44 @@ module _ (b : Basis) (script : Script) (c : Chapter) (k : EndsWell b script c) w
       mine : is_own is_update line.call e ≡ true
       mine = rw (answered.own, update, itself e.who) refl
 
-      no_fault : {X : Type 0} (before : List PrefEntry) (x : PrefEntry) (behind : List PrefEntry) → c.told.entries ≡ before ++ x ∷ behind → is_own (is_fault_of Folder) line.call x ≡ true → X
-      no_fault before x behind is own =
-          let none = none_stands is_folder_fault c.told.entries before behind x (counted is_folder_fault c.told.entries ∙ rw faults_none refl) is in
-          never (sym none ∙ (and_parts (is_call line.call x.who) (is_fault_of Folder x.kind) own).1)
-
-      not_uncertain : {X : Type 0} (place : ℕ) → IsUncertain line.call place c.told.entries → X
-      not_uncertain place changed =
-          let failed = changed.failed in
-          no_fault (failed.before ++ failed.first ∷ failed.between) failed.second failed.behind (failed.is ∙ sym (append_assoc failed.before (failed.first ∷ failed.between) (failed.second ∷ failed.behind))) failed.closes
-
-      not_dead : {X : Type 0} (place : ℕ) → IsDead line.call place c.told.entries → X
-      not_dead place told =
-          let death = told.death in
-          never (sym (death_of line.call.node death.entry.kind (none_stands dies c.told.entries death.before death.behind death.entry deaths_none death.is)) ∙ death.passed)
-
       -- what is answered otherwise has no Edit and no Same
-      not_other : {X : Type 0} → may_stand line.answer ≡ false → X
-      not_other other = never (sym (none_stands (is_own is_update line.call) c.told.entries before behind e (truth.none other) is) ∙ mine)
+      may : (b : Bool) → may_stand line.answer ≡ b → b ≡ true
+      may true says = refl
+      may false says = never (sym (none_stands (is_own is_update line.call) c.told.entries before behind e (truth.none says) is) ∙ mine)
 
-      abbrev shown_then : ℕ
-      shown_then = shown_to line.call.client c.told.entries answered.at.before
-
-      by_update : (edit : Change) → Contains c.asked (record { call = line.call; act = act.Update edit }) → (answer : AnswerSeen) → line.answer ≡ answer → IsUpdateExplained b.rules c.store c.told.entries shown_then line.call edit answer
-          → IsOwnEdit b c e
-      by_update edit asked (seen.Updated edition) says told =
+      own_by : (asked : Act) → Contains c.asked (record { call = line.call; act = asked }) → CarriesAsked asked e.kind → IsOwnEdit b c e
+      own_by (act.Update edit) asked carried =
           record {
             line = line;
             edit = edit;
             answered = subst (λ list. Contains list line) (sym answered.at.is) (contains_at answered.at.before line answered.at.behind);
             own = answered.own;
-            may = rw says refl;
+            may = may (may_stand line.answer) refl;
             asked = unposted _ _ line.poster truth.poster asked;
-            carried =
-                all_at (CarriesIt line.call edit edition c.told.entries told) before e behind
-                (subst (λ list. All (CarriesIt line.call edit edition c.told.entries told) list) is (updates_carry line.call edit edition c.told.entries told)) mine;
+            carried = carried;
           }
-      by_update edit asked (seen.NotDurable place) says told =
-          elim told [
-            | inl changed ↦ not_uncertain place changed
-            | inr same ↦ no_fault same.fault.before same.fault.entry same.fault.behind same.fault.is same.fault.passed
-          ]
-      by_update edit asked (seen.Died place) says told = not_dead place told
-      by_update edit asked seen.Cut says told = absurd told
-      by_update edit asked other says told = not_other (rw says refl)
-
-      -- nor has a read
-      by_read : (answer : AnswerSeen) → line.answer ≡ answer → IsReadExplained b.rules c.store c.told.entries shown_then line.call answer → IsOwnEdit b c e
-      by_read (seen.Updated edition) says told = absurd told
-      by_read (seen.NotDurable place) says told = not_uncertain place told
-      by_read (seen.Died place) says told = not_dead place told
-      by_read seen.Cut says told = absurd told
-      by_read other says told = not_other (rw says refl)
-
-      by_act : (asked : Act) → Contains c.asked (record { call = line.call; act = asked }) → IsExplained b.rules c.store c.told.entries shown_then line.call asked line.answer → IsOwnEdit b c e
-      by_act (act.Update edit) asked told = by_update edit asked line.answer refl told
-      by_act act.Read asked told = by_read line.answer refl told
-      by_act other asked told = absurd told
+      own_by other asked carried = absurd carried
 
       own_edit : IsOwnEdit b c e
-      own_edit = by_act truth.act truth.asked truth.explained
+      own_edit =
+          own_by truth.act truth.asked
+          (all_at (λ e. is_own is_update line.call e ≡ true → CarriesAsked truth.act e.kind) before e behind (subst (λ list. CarriesOwn line.call truth.act list) is truth.carried) mine)
 
   spares : (call : CallId) (answer : AnswerSeen) → Spares c call answer
   spares call (seen.Updated edition) = record { passed = rw k.unplanned refl; written = λ edits. rw k.unplanned refl }
   spares call other = tt
+
+  -- the count of faults has not come to its end, and tells them all
+  faults_planned : c.plan.fuse ≡ None → faults_of c ≤ length c.plan.folder_faults
+  faults_planned unfused =
+      let w = k.end.shared.world in
+      let failing = k.known.state.failing in
+      let folder = k.folder in
+      let few = k.few in
+      let most : c.store.folder.most ≡ Some (min (0 + length c.plan.folder_faults) (2 ^ 64 - 1)) = rw (folder, unfused, length_in_order c.plan.folder_faults) refl in
+      let struck = subst (λ most. IfSome most (λ most. min (w.tally.count + left_to_strike w.tally.due.made w.tally.due.planned) (2 ^ 64 - 1) ≤ most)) most failing.struck in
+      let counted : w.tally.count ≡ min (0 + count_by is_folder_fault w.history) (2 ^ 64 - 1) = k.known.state.faults ∙ rw folder refl in
+      rw k.tells.entries (omega (arith, few, struck, counted))
 
   old_faults_none : count_by (λ (e : PrefEntry). is_fault_of Legacy e.kind) c.told.entries ≡ 0
   old_faults_none =
@@ -371,7 +311,7 @@ module _ (b : Basis) (script : Script) (c : Chapter) (k : EndsWell b script c) w
         plans =
             record {
               deaths = record { deaths = entry_lives; spared = λ before line behind is. spares line.call line.answer };
-              faults = record { folder = λ unfused. rw faults_none omega arith; legacy = old_faults_none };
+              faults = record { folder = faults_planned; legacy = old_faults_none };
             };
         file = rw k.tells.entries (k.tells.file ∙ ap (file_seen b.file_limit) k.known.main);
       }

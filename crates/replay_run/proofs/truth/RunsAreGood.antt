@@ -6,7 +6,7 @@ use Rattle.script_lang.specs.declared.plan.script.Script.{Script}
 use Rattle.script_lang.specs.declared.plan.session_plan.SessionPlan.{SessionPlan}
 use Rattle.script_lang.specs.declared.transcripts.transcript.Transcript.{Transcript}
 use Rattle.script_lang.specs.Good.{Good}
-use Rattle.script_lang.specs.Keeps.{Keeps}
+use Rattle.script_lang.specs.Keeps.{Keeps, KeepsPlan}
 use Rattle.replay_run.specs.PrefsBasis.{prefs_basis}
 use Rattle.replay_run.specs.ScriptRun.{Runs}
 use Rattle.replay_run.specs.Typed.{IsTyped, IsTypedAct}
@@ -18,4 +18,5 @@ runs_good script transcript kept typed runs =
     let plan = kept.built.plan in
     let all : All (λ (line : RunLine). IsTypedAct line.act) plan.lines =
     All-head (λ (p : SessionPlan). All (λ (line : RunLine). IsTypedAct line.act) p.lines) plan [] (subst (λ (sessions : List SessionPlan). All (λ p. All (λ (line : RunLine). IsTypedAct line.act) p.lines) sessions) kept.built.only typed) in
-    good_end prefs_basis script transcript kept runs (λ told played. first_ends script plan told kept.built.plain all kept.homes.declared [] played)
+    let faults = (All-head (KeepsPlan script) plan [] (subst (λ (sessions : List SessionPlan). All (KeepsPlan script) sessions) kept.built.only kept.sessions.plans)).faults in
+    good_end prefs_basis script transcript kept runs (λ told played. first_ends script plan told kept.built.whole faults all kept.homes.declared [] played)

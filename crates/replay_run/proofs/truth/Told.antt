@@ -8,6 +8,7 @@ use Rattle.std.proofs.lemmas.List.Folds.{list_any-append, list_any_none}
 use Rattle.std.proofs.lemmas.Option.{get_or_from_slice_get, slice_get_within}
 use Rattle.store_traits.specs.declared.ids.CallId.{CallId}
 use Rattle.store_traits.specs.declared.ids.ClientId.{ClientId}
+use Rattle.folder_disk.specs.Tally.{most_of}
 use Rattle.hist_journal.proofs.ClearingLemmas.{longer}
 use Rattle.prefs_text.specs.Callers.{actor_name}
 use Rattle.prefs_text.specs.EntryText.{PrefEntry}
@@ -17,19 +18,19 @@ use Rattle.shelf.specs.Entries.{is_own, is_update}
 use Rattle.shelf.proofs.Bools.{none_in_both}
 use Rattle.shelf.proofs.EachLemmas.{Walked, each_walked}
 use Rattle.script_lang.specs.Asked.{asked_by, home_of, is_actor}
-use Rattle.script_lang.specs.Chronicle.{Basis, Chapter}
+use Rattle.script_lang.specs.Chronicle.{Basis, Chapter, due_of}
 use Rattle.script_lang.specs.GoodAnswers.{IsHome}
 use Rattle.script_lang.specs.GoodCauses.{may_stand}
 use Rattle.script_lang.specs.Shown.{printed, shown_to}
 use Rattle.script_lang.specs.declared.plan.run_line.Act.{Act}
 use Rattle.script_lang.specs.declared.plan.script.Script.{Script}
-use Rattle.replay_run.specs.ClientInvariant.{ClientInvariant, IsExplained}
+use Rattle.replay_run.specs.ClientInvariant.{CarriesOwn, ClientInvariant, IsExplained}
 use Rattle.replay_run.specs.EndInvariant.{EndInvariant}
 use Rattle.replay_run.specs.Lines.{acts_for}
 use Rattle.replay_run.specs.Rounds.{IsOver}
 use Rattle.replay_run.specs.RunState.{Client, RunState, call_at}
 use Rattle.replay_run.specs.ScriptRun.{Tells, lines_of}
-use Rattle.replay_run.proofs.keeping.Peaceful.{Peaceful}
+use Rattle.replay_run.proofs.keeping.Living.{Living}
 use Rattle.replay_run.proofs.keeping.StepsKeep.{all_answered}
 use Rattle.replay_run.proofs.lists.JoinedLemmas.{all_each}
 use Rattle.replay_run.proofs.truth.AskedInOrder.{asked_for, own_call}
@@ -81,6 +82,7 @@ module _ (b : Basis) (script : Script) (c : Chapter) where
     pub explained : IsExplained b.rules c.store list (shown_to line.call.client list before) line.call act line.answer
     pub late : IfSome (printed line.answer) (λ edition. shown_to line.call.client list before ≤ edition)
     pub none : may_stand line.answer ≡ false → list_any (is_own is_update line.call) list ≡ false
+    pub carried : CarriesOwn line.call act list
     pub in_order : list_any (is_later line.call.client.0) before ≡ false
 
 -- the session went to its end, and all was kept
@@ -90,8 +92,11 @@ pub record EndsWell (b : Basis) (script : Script) (c : Chapter) : Type 0 where
   pub over : IsOver end
   pub tells : Tells b c.told end
   pub underway : AreUnderWay script.homes c.plan.lines [] end
-  pub peaceful : Peaceful end.shared.world
+  pub living : Living end.shared.world
   pub unplanned : c.plan.deaths ≡ []
+  -- no call of the folder had failed before, and few are planned to
+  pub folder : c.store.folder ≡ record { count = 0; most = most_of 0 (due_of c.plan) }
+  pub few : length c.plan.folder_faults ≤ 100000
   pub asked : c.asked ≡ asked_by script [] c.plan.lines
   pub one_each : length script.homes ≡ length script.names.clients
 
@@ -166,6 +171,7 @@ module _ (b : Basis) (script : Script) (c : Chapter) (k : EndsWell b script c) w
           explained = subst (λ shown. IsExplained b.rules c.store history shown line.call truth.act line.answer) (sym shown) truth.explained;
           late = subst (λ shown. IfSome (printed line.answer) (λ edition. shown ≤ edition)) (sym shown) truth.late;
           none = truth.none;
+          carried = truth.carried;
           in_order =
               ap (λ (call : CallId). list_any (is_later call.client.0) (others ++ before)) call
               ∙ none_in_both (is_later place) others before (list_any_none (is_later place) others (told_by (nat_lt place) false (λ n. n < place) (λ n less. grind (arith, nat_tests, less)) others earlier))

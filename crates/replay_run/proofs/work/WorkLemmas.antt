@@ -34,8 +34,8 @@ use Rattle.replay_run.specs.Steps.{Looks, StepsAt}
 use Rattle.replay_run.specs.WorkLeft.{IsStill, RoundSoFar, Waits, client_left, turns_left, work_left}
 use Rattle.replay_run.proofs.keeping.BehindTurns.{Behind, behind, blocked, client_on, ended, moved}
 use Rattle.replay_run.proofs.keeping.CallKept.{call_kept}
-use Rattle.replay_run.proofs.keeping.OwnTurns.{own_turn}
-use Rattle.replay_run.proofs.keeping.Peaceful.{is_peaceful}
+use Rattle.replay_run.proofs.keeping.Living.{is_living}
+use Rattle.replay_run.proofs.keeping.OwnTurns.{kinds_of, own_turn}
 use Rattle.replay_run.proofs.keeping.StepCases.{StepCase, looks, rests, step_case, turns}
 use Rattle.replay_run.proofs.lists.OptionLemmas.{one_of_it}
 use Rattle.replay_run.proofs.lists.SetLemmas.{others_found}
@@ -58,11 +58,11 @@ record IsIdle (limit : ℕ) (client : Client) (old new : RunState) : Type 0 wher
 abbrev FallsOrIdles : ℕ → Client → RunState → RunState → Type 0
 FallsOrIdles limit client old new = (work_left limit new < work_left limit old) ⊎ IsIdle limit client old new
 
-module _ (r : PrefRules) {M : Type 0} (s : Store Value M) (unplanned : s.deaths ≡ []) (most : s.folder.most ≡ Some 0) where
+module _ (r : PrefRules) {M : Type 0} (s : Store Value M) (unplanned : s.deaths ≡ []) where
   abbrev limit : ℕ
   limit = s.limits.file
 
-  module _ (place : ℕ) (old new : RunState) (it : StepsAt r s place old new) (keeps : RunInvariant r s old) (told : old.shared.world.told ≡ true) where
+  module _ (place : ℕ) (old new : RunState) (it : StepsAt r s place old new) (keeps : RunInvariant r s old) where
     -- behind the call that the client is at
     abbrev rest : ℕ
     rest = (length it.client.asked - length it.client.answered - 1) * (limit + 12)
@@ -96,8 +96,9 @@ module _ (r : PrefRules) {M : Type 0} (s : Store Value M) (unplanned : s.deaths 
 
       grows : (gave : Progress (Reply Value)) → Turn r s taken gave → (node : NodeId) → is_ready node old.shared.world.history ≡ true → is_ready node new.shared.world.history ≡ true
       grows gave turn node is =
-          let own = own_turn r s taken (is_peaceful s unplanned most r old keeps) gave turn told kept.knows.plan in
-          rw own.adds (stays_ready node old.shared.world.history (entries_of call.id turn.effect.kinds) (none_of_node node (entries_of call.id turn.effect.kinds) own.alive) is)
+          let own = own_turn r s taken (is_living s unplanned r old keeps) gave turn kept.knows.plan in
+          let more = entries_of call.id (kinds_of taken turn.effect) in
+          rw own.adds (stays_ready node old.shared.world.history more (none_of_node node more own.alive) is)
 
       -- the call has as many as its next turn leaves it
       on_left : (w : PrefWorld) → client_left limit w (client_on it.client call_after) ≡ steps_left limit (is_ready it.client.node w.history) call_after.at + rest
@@ -190,8 +191,8 @@ module _ (r : PrefRules) {M : Type 0} (s : Store Value M) (unplanned : s.deaths 
           })
 
       -- the client at this place has its step
-      pub round_goes_on : RunInvariant r s now → now.shared.world.told ≡ true → SoFar place now → SoFar (place + 1) after
-      round_goes_on keeps told so_far = goes_on (steps_fall place now after it keeps told) so_far
+      pub round_goes_on : RunInvariant r s now → SoFar place now → SoFar (place + 1) after
+      round_goes_on keeps so_far = goes_on (steps_fall place now after it keeps) so_far
 
     -- behind a round nobody had anything to do, or there is less to do
     pub round_falls : (now : RunState) → RunInvariant r s start → SoFar (length start.clients) now → IsOver start ⊎ (work_left limit now < work_left limit start)

@@ -25,8 +25,8 @@ impl<'s> RunningSession<'s> {
         ensures base { IfOk result (λ session. (session_seen session).base ≡ (store_in self.entry.shelf).base) }
     {
         let answers = all_answers(alloc, self.clients)?;
-        let parts = self.shelf.into_parts();
-        let file = told_main(alloc, parts.folder.main())?;
+        let mut parts = self.shelf.into_parts();
+        let file = told_main(alloc, parts.folder.inner().main())?;
         Ok(Session {
             base: another_owner(parts.journal.base())?,
             answers: AnswerList::new(answers),

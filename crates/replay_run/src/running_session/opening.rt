@@ -1,8 +1,9 @@
-ghost use Rattle.std.specs.Prelude.{◌≡◌, ◌≤◌, [], false, length, map, None, IfOk, OnOk};
+ghost use Rattle.std.specs.Prelude.{◌≡◌, ◌≤◌, ◌∷◌, [], false, length, map, None, IfOk, OnOk};
 ghost use Rattle.prefs_proto.specs.Reads.{Reads};
 ghost use Rattle.shelf.specs.Base.{HasItsBase};
 ghost use Rattle.shelf.specs.ShelfSeen.{shelf_seen};
 ghost use Rattle.script_lang.specs.Keeps.{Keeps};
+ghost use Rattle.script_lang.specs.SessionPlans.{IsWhole};
 ghost use Rattle.value_cache.specs.Cached.{kept_seen};
 ghost use Rattle.replay_run.specs.NewClients.{AreNew};
 ghost use Rattle.replay_run.specs.PrefsBasis.{prefs_basis};
@@ -14,11 +15,11 @@ ghost use Rattle.replay_run.specs.ShelfOpens.{ShelfOpens, first_nodes, with_node
 use super::RunningSession;
 use crate::client::{Client, Settings};
 use crate::main_file::{FILE_LIMIT, base_of, copy_of};
-use folder_disk::MemFolder;
+use folder_disk::{FuseFolder, MemFolder};
 use hist_journal::Bounds;
 use prefs_model::PrefMap;
 use prefs_proto::PrefsCodec;
-use script_lang::Script;
+use script_lang::{Script, SessionPlan};
 use shelf::{AddNodeError, Setup, Shelf};
 use std::alloc::{AllocError, Global};
 use store_traits::{ClientId, NodeId, PlainWord};
@@ -28,14 +29,19 @@ use value_cache::Cache;
 const WEIGHT_LIMIT: u64 = 268_435_456;
 
 impl<'s> RunningSession<'s> {
-    /// The first session of a script, in which nothing has happened yet.
-    pub(crate) fn open(alloc: Global, script: &'s Script) -> Result<RunningSession<'s>, AllocError>
-        requires { Keeps script.now }
-        ensures opened { IfOk result (IsOpened script.now) }
+    /// The first session of a script, by this plan, in which nothing has happened yet.
+    pub(crate) fn open(
+        alloc: Global,
+        script: &'s Script,
+        plan: &SessionPlan,
+    ) -> Result<RunningSession<'s>, AllocError>
+        requires keeps { Keeps script.now }
+        requires plan { script.now.sessions ≡ plan.now ∷ [] }
+        ensures opened { IfOk result (IsOpened script.now plan.now) }
         ensures few { IfOk result (AsksFew 0) }
         ensures base { IfOk result (λ session. HasItsBase Reads [] (store_in session.shelf)) }
     {
-        let mut shelf = open_shelf(alloc, script)?;
+        let mut shelf = open_shelf(alloc, script, plan)?;
         let nodes = script.names.nodes.names().len() as u32;
         add_nodes(alloc, &mut shelf, nodes)?;
         Ok(RunningSession {
@@ -47,13 +53,19 @@ impl<'s> RunningSession<'s> {
     }
 }
 
-/// The folder has the script's file, and the base is what that reads as.
-fn open_shelf(alloc: Global, script: &Script) -> Result<Shelf<Settings>, AllocError>
-    requires { script.now.start.replace ≡ false }
-    ensures { IfOk result (ShelfOpens prefs_basis script.now) }
+/// The folder has the script's file and fails by the plan, and the base is what the file reads as.
+fn open_shelf(
+    alloc: Global,
+    script: &Script,
+    plan: &SessionPlan,
+) -> Result<Shelf<Settings>, AllocError>
+    requires whole { IsWhole plan.now }
+    requires unreplaced { script.now.start.replace ≡ false }
+    ensures { IfOk result (ShelfOpens prefs_basis script.now plan.now) }
 {
     let main = copy_of(alloc, &script.start.file)?;
-    let folder = MemFolder::new(alloc, main, Vec::new(alloc))?;
+    let failing = plan.folder_faults.as_slice().to_vec(alloc)?;
+    let folder = MemFolder::new(alloc, main, failing)?;
     let base = base_of(alloc, folder.main())?;
     let bounds = Bounds {
         entries: script.start.entries,
@@ -64,6 +76,7 @@ fn open_shelf(alloc: Global, script: &Script) -> Result<Shelf<Settings>, AllocEr
         limit: FILE_LIMIT,
         bounds,
     };
+    let folder = FuseFolder::new(folder, plan.fuse);
     Ok(Shelf::new(alloc, setup, base, folder))
 }
 

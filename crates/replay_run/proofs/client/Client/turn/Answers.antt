@@ -1,6 +1,5 @@
 use Rattle.std.proofs.Common.{◌≡◌, ◌∙◌, Some, refl, sym, ap, subst}
 use Rattle.prefs_edit.specs.contracts.edit.EditTransform.TheImpl as edit
-use Rattle.folder_disk.specs.contracts.mem_folder.MemFolderFolder.TheImpl as folder
 use Rattle.prefs_proto.specs.contracts.prefs_codec.PrefsCodecCodec.TheImpl as codec
 use Rattle.shelf.specs.ShelfSeen.{shelf_seen}
 use Rattle.value_cache.specs.Cached.{kept_seen}
@@ -13,6 +12,7 @@ use Rattle.replay_run.specs.Settings.{PrefCall}
 use Rattle.replay_run.specs.Steps.{kept_behind}
 use Rattle.replay_run.proofs.keeping.BehindTurns.{client_on}
 use Rattle.replay_run.proofs.session.ClientTurns.{both_ok, equips, goes_on, not_ended, on_equipped, spares_now, takes}
+use Rattle.replay_run.proofs.session.ScriptGhosts.{ghosts}
 use Rattle.replay_run.proofs.session.TrueCacheLemmas.{turn_stays}
 use Rattle.replay_run.proofs.client.Client.turn.Goals as goal
 
@@ -28,11 +28,11 @@ returns-in-Moved c =
     let may = c.requires.may in
     let so = not_ended c.step-progress.result c.in-Moved.is in
     let seen : client_seen now ≡ client_on (client_seen client) (running_seen after) = ap client_seen c.run.ensures ∙ ap (client_on (client_seen client)) c.kept.ensures.same in
-    let equipped : Equipped codec.ghosts edit.ghosts folder.ghosts (running_seen c.kept.new.self).at (shelf_seen new) =
-    subst (λ (call : PrefCall). Equipped codec.ghosts edit.ghosts folder.ghosts call.at (shelf_seen new)) (sym c.kept.ensures.same) (equips old client c.args.call may new after gave steps so) in
+    let equipped : Equipped codec.ghosts edit.ghosts ghosts (running_seen c.kept.new.self).at (shelf_seen new) =
+    subst (λ (call : PrefCall). Equipped codec.ghosts edit.ghosts ghosts call.at (shelf_seen new)) (sym c.kept.ensures.same) (equips old client c.args.call may new after gave steps so) in
     record {
       steps =
-          takes old client c.args.call may new after gave steps refl now (kept_seen c.args.cache.now) (kept_seen c.publish.new.cache)
+          takes old client c.args.call may new after gave steps refl refl now (kept_seen c.args.cache.now) (kept_seen c.publish.new.cache)
           (goes_on (client_seen client) (running_seen after) gave so ∙ ap Some (sym seen))
           (c.publish.ensures ∙ ap (kept_behind (kept_seen c.args.cache.now)) (c.kept.ensures.kept ∙ c.step-progress.ensures.published));
       equipped = on_equipped new now c.kept.new.self (ap (λ (x : own.Client). x.running) c.run.ensures) equipped;
@@ -53,7 +53,7 @@ returns-in-Ended-clause-steps c =
     let steps = c.step-progress.ensures.steps in
     both_ok c.end.result c.end.ensures.answered c.end.ensures.answered
     (λ answered again.
-    takes c.args.shelf.now client c.args.call c.requires.may c.step-progress.new.shelf after (replied_so c.step-progress.result) steps refl c.end.new.self (kept_seen c.args.cache.now) (kept_seen c.publish.new.cache)
+    takes c.args.shelf.now client c.args.call c.requires.may c.step-progress.new.shelf after (replied_so c.step-progress.result) steps refl refl c.end.new.self (kept_seen c.args.cache.now) (kept_seen c.publish.new.cache)
     (ap (λ gave. behind_turn (client_seen client) (running_seen after) (replied_so gave)) c.in-Ended.is ∙ answered (running_seen after) (steps.call ∙ c.requires.may.its.id))
     (c.publish.ensures ∙ ap (kept_behind (kept_seen c.args.cache.now)) (c.kept.ensures.kept ∙ c.step-progress.ensures.published)))
 

@@ -18,4 +18,4 @@ returns-clause-keeps c =
     let found = slice_get_read old.clients.items (vec_len old.clients) c.args.place client old.clients.ok.0 c.requires.within c.index_mut.ensures.value in
     both_ok c.ask.result c.ask.ensures.same c.ask.ensures.asked (λ same asked.
     let keeps = asking_keeps old c.args.place client c.ask.new.self c.args.task found same asked c.requires.keeps in
-    record { state = keeps.state; spare = keeps.spare; number = keeps.number; nodes = keeps.nodes; equipped = keeps.equipped })
+    record { state = keeps.state; number = keeps.number; nodes = keeps.nodes; equipped = keeps.equipped })

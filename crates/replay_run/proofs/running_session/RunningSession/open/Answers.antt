@@ -13,5 +13,5 @@ pub returns-clause-opened : goal.returns-clause-opened
 returns-clause-opened c =
     let clients = c.in_ok-new_clients.field-0 in
     let new = subst (λ (homes : List NodeId). AreNew homes clients.items) c.as_slice.ensures c.in_ok-new_clients.ensures in
-    is_opened c.args.script.now (record { shelf = c.add_nodes.new.shelf; word = c.new.result; caches = c.in_ok-empty_caches.field-0; clients = clients; cached = c.result-2-1.given.0 }) c.in_ok-shelf.shelf (length c.names.result.now) c.requires c.in_ok-shelf.ensures c.in_ok-add_nodes.ensures
+    is_opened c.args.script.now c.args.plan.now (record { shelf = c.add_nodes.new.shelf; word = c.new.result; caches = c.in_ok-empty_caches.field-0; clients = clients; cached = c.result-2-1.given.0 }) c.in_ok-shelf.shelf (length c.names.result.now) c.requires.keeps c.requires.plan c.in_ok-shelf.ensures c.in_ok-add_nodes.ensures
     (ap length c.names.ensures) new c.in_ok-empty_caches.ensures c.new.ensures

@@ -1,19 +1,18 @@
 use Rattle.std.proofs.Common.{◌≡◌, ◌∙◌, ℕ, true, [], ◌∷◌, ◌++◌, List, sym, ap, subst, arith}
 use Rattle.std.proofs.lemmas.List.FromFn.{map-range_with_len_more}
 use Rattle.store_traits.specs.declared.ids.NodeId.{NodeId}
-use Rattle.folder_disk.specs.declared.mem_folder.MemFolder.{MemFolder}
 use Rattle.prefs_proto.specs.declared.prefs_codec.PrefsCodec.{PrefsCodec}
 use Rattle.shelf.specs.declared.answers.AddNodeError.{AddNodeError}
 use Rattle.shelf.specs.AddsNode.{RefusesNode, is_among}
 use Rattle.shelf.specs.ShelfSeen.{ShelfSeen, shelf_seen}
 use Rattle.shelf.proofs.Bools.{never}
 use Rattle.replay_run.specs.ShelfOpens.{first_nodes, with_nodes}
-use Rattle.replay_run.specs.Settings.{Change, Value}
+use Rattle.replay_run.specs.Settings.{Change, ScriptFolder, Value}
 use Rattle.replay_run.proofs.session.OpeningLemmas.{not_among}
 use Rattle.replay_run.proofs.running_session.opening.add_nodes.Goals as goal
 
 abbrev Seen : Type 0
-Seen = ShelfSeen PrefsCodec MemFolder Value Change
+Seen = ShelfSeen PrefsCodec ScriptFolder Value Change
 
 pub unreachable-requires : goal.unreachable-requires
 unreachable-requires c =
