@@ -2,6 +2,7 @@
 //! that took. It stands on the crates whose work it does. `bench/run` builds and runs it.
 #![tactic(auto)]
 
+mod faults;
 mod looks;
 mod reads;
 mod replays;
@@ -79,6 +80,7 @@ fn shown(alloc: Global, bytes: &[u8]) -> Result<u64> {
 /// `ds_bench scripts` reads a script of 10,000 lines and one of 100,000.
 /// `ds_bench replay` replays scripts of 1,000 and of 20,000 updates over two clients, and `ds_bench reads` scripts of 1,000,
 /// of 5,000 and of 20,000 reads.
+/// `ds_bench faults` replays 30,000 updates, alone and beside 60,000 planned failures.
 /// `ds_bench look` looks in a cache, and makes owners of a value, a million times each.
 /// Without words it does nothing.
 fn main(rt: HostRuntime) -> Result<()> {
@@ -91,6 +93,7 @@ fn main(rt: HostRuntime) -> Result<()> {
         "scripts" => return scripts::run(&rt),
         "replay" => return replays::run(&rt),
         "reads" => return reads::run(&rt),
+        "faults" => return faults::run(&rt),
         "look" => return looks::run(&rt),
         _ => {}
     }

@@ -1,6 +1,6 @@
 //! A command over devices in memory, and rows that tell what comes of it.
 use byte_io::{MemSink, MemSource, Source};
-use folder_disk::{FolderCall, MainRead, MemFolder, Planned};
+use folder_disk::{FolderCall, FuseFolder, MainRead, MemFolder, Planned};
 use prefs_tool::run_tool;
 use std::alloc::{AllocError, Global};
 use store_traits::FileBytes;
@@ -8,8 +8,22 @@ use store_traits::FileBytes;
 /// More than any test prints.
 const ROOM: u64 = 1 << 20;
 
-/// A folder with this file. `failing` names the call that fails, the first of its kind, or another device.
-pub fn folder_of(alloc: Global, main: MainRead, failing: &str) -> Option<MemFolder> {
+/// A folder in memory with a fuse.
+pub type Fused = FuseFolder<MemFolder>;
+
+/// A folder with this file. `failing` names the call that fails, the first of its kind, or a fuse, as `fuse 1`, or another
+/// device.
+pub fn folder_of(alloc: Global, main: MainRead, failing: &str) -> Option<Fused> {
+    let planned = planned_of(alloc, failing)?;
+    let folder = MemFolder::new(alloc, main, planned).ok()?;
+    let fuse = match failing.strip_prefix("fuse ") {
+        Some(number) => Some(number.parse().ok()?),
+        None => None,
+    };
+    Some(FuseFolder::new(folder, fuse))
+}
+
+fn planned_of(alloc: Global, failing: &str) -> Option<Vec<Planned>> {
     let call = match failing {
         "read_main" => FolderCall::ReadMain,
         "create" => FolderCall::Create,
@@ -17,10 +31,9 @@ pub fn folder_of(alloc: Global, main: MainRead, failing: &str) -> Option<MemFold
         "sync_scratch" => FolderCall::SyncScratch,
         "rename" => FolderCall::Rename,
         "sync_folder" => FolderCall::SyncFolder,
-        _ => return MemFolder::new(alloc, main, Vec::new(alloc)).ok(),
+        _ => return Some(Vec::new(alloc)),
     };
-    let planned = vec![in alloc; Planned { call, number: 1 }].ok()?;
-    MemFolder::new(alloc, main, planned).ok()
+    vec![in alloc; Planned { call, number: 1 }].ok()
 }
 
 /// A sink. `failing` names the write that fails, as `write 1`, or another device.
@@ -55,7 +68,7 @@ pub fn status_of<S: Source>(
     line: &str,
     source: &mut S,
     sink: &mut MemSink,
-    folder: &mut MemFolder,
+    folder: &mut Fused,
 ) -> Option<u8> {
     let words = words_of(alloc, line).ok()?;
     Some(run_tool(alloc, words.as_slice(), source, sink, folder).code())
@@ -66,7 +79,7 @@ pub fn folder_after(
     alloc: Global,
     (failing, before, line): (&str, MainRead, &str),
     (status, printed): (&str, &str),
-) -> Option<MemFolder> {
+) -> Option<Fused> {
     let mut folder = folder_of(alloc, before, failing)?;
     let mut sink = sink_of(alloc, failing)?;
     let mut source = source_of(alloc, b"", "read 1")?;
@@ -83,8 +96,8 @@ fn main_of(alloc: Global, digits: &str) -> Option<MainRead> {
     Some(MainRead::Bytes(FileBytes::new(hex::decode(alloc, digits).ok()?)))
 }
 
-fn is_main(alloc: Global, folder: &MemFolder, digits: &str) -> Option<bool> {
-    match folder.main() {
+fn is_main(alloc: Global, folder: &mut Fused, digits: &str) -> Option<bool> {
+    match folder.inner().main() {
         Some(main) => Some(main == hex::decode(alloc, digits).ok()?.as_slice()),
         None => Some(digits == "none"),
     }
@@ -98,6 +111,6 @@ pub fn holds(alloc: Global, row: &str) -> Option<bool> {
         return None;
     };
     let before = main_of(alloc, before)?;
-    let folder = folder_after(alloc, (failing, before, line), (status, printed))?;
-    is_main(alloc, &folder, after)
+    let mut folder = folder_after(alloc, (failing, before, line), (status, printed))?;
+    is_main(alloc, &mut folder, after)
 }

@@ -1,7 +1,7 @@
 //! Commands over a folder or a sink that fails.
 use crate::command::holds;
 
-const FOLDER: [&str; 10] = [
+const FOLDER: [&str; 17] = [
     "read_main|none|set volume int 5|3|error: storage\n|none",
     "create|none|set volume int 5|3|error: storage\n|none",
     "append|none|set volume int 5|3|error: storage\n|none",
@@ -13,6 +13,14 @@ const FOLDER: [&str; 10] = [
     // An equal value makes no scratch file, and the folder is synced all the same.
     "create|0a0c0a06766f6c756d6512021805|set volume int 5|0||0a0c0a06766f6c756d6512021805",
     "sync_folder|0a0c0a06766f6c756d6512021805|remove theme|3|error: storage\n|0a0c0a06766f6c756d6512021805",
+    // Each call behind a fuse fails, and six calls go well.
+    "fuse 0|none|set volume int 5|3|error: storage\n|none",
+    "fuse 1|none|set volume int 5|3|error: storage\n|none",
+    "fuse 2|none|set volume int 5|3|error: storage\n|none",
+    "fuse 3|none|set volume int 5|3|error: storage\n|none",
+    "fuse 4|none|set volume int 5|3|error: storage\n|none",
+    "fuse 5|none|set volume int 5|3|error: storage\n|0a0c0a06766f6c756d6512021805",
+    "fuse 6|none|set volume int 5|0||0a0c0a06766f6c756d6512021805",
 ];
 
 #[test]

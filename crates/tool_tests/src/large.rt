@@ -26,9 +26,9 @@ fn thousand_fives(alloc: Global) -> Option<MainRead> {
 
 fn is_one_set(alloc: Global) -> Option<bool> {
     let before = thousand_fives(alloc)?;
-    let folder = folder_after(alloc, ("", before, "set 0500 int 6"), ("0", ""))?;
+    let mut folder = folder_after(alloc, ("", before, "set 0500 int 6"), ("0", ""))?;
     let wanted = thousand(alloc, '\u{6}').ok()?;
-    Some(folder.main()? == wanted.as_bytes())
+    Some(folder.inner().main()? == wanted.as_bytes())
 }
 
 #[test]
@@ -76,8 +76,8 @@ fn leaves(alloc: Global, row: &str) -> Option<bool> {
         return None;
     };
     let before = file_of_text(alloc, head, letters)?;
-    let folder = folder_after(alloc, ("", before, line), (status, printed))?;
-    Some(len.parse() == Ok(folder.main()?.len()))
+    let mut folder = folder_after(alloc, ("", before, line), (status, printed))?;
+    Some(len.parse() == Ok(folder.inner().main()?.len()))
 }
 
 #[test]

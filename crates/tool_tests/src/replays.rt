@@ -103,6 +103,34 @@ fn scripts_print_their_runs(rt: HostRuntime) {
     assert!(rt; is_run(alloc, "", "session 1\nbase {}\nfile none\n"));
 }
 
+const RENAME_FAILS_RUN: &str = "\
+session 1
+base {}
+a 1 storagefault 3
+a 2 updated 1
+entry 1 a 1 inited n1
+entry 2 a 1 raise
+entry 3 a 1 fault folder 1
+entry 4 a 2 raise
+entry 5 a 2 edit set \"k\" int 2
+entry 6 a 2 synced
+file 0a070a016b12021802
+";
+
+/// Whether failures that never come, and one that is planned two thousand times, are one failure.
+fn strike_once(alloc: Global) -> Option<bool> {
+    let never = "fault rename 4294967295\n".repeat(alloc, 2000).ok()?;
+    let twice = "fault rename 1\n".repeat(alloc, 2000).ok()?;
+    let updates = "a update set \"k\" int 1\na update set \"k\" int 2\n";
+    let script = format!(in alloc; "node n1\nclient a on n1\n{never}{twice}{updates}").ok()?;
+    Some(is_run(alloc, script.as_str(), RENAME_FAILS_RUN))
+}
+
+#[test]
+fn a_failure_planned_many_times_strikes_once(rt: HostRuntime) {
+    assert_eq!(rt; strike_once(rt.alloc()), Some(true));
+}
+
 /// Whether `replay` tells this of the first faulty line.
 fn is_told(alloc: Global, script: &str, told: &str) -> bool {
     replays(alloc, ("", script), (2, told)) == Some(true)
