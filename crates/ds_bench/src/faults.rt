@@ -33,16 +33,22 @@ pub fn run(rt: &HostRuntime) -> Result<()> {
     Ok(())
 }
 
-/// A script of updates, which two clients of two nodes make by turns. Behind so many calls that go well, so many syncs of the
-/// folder are to fail, the last one first.
+/// A script of updates. Behind so many calls that go well, so many syncs of the folder are to fail, the last one first.
 fn script(alloc: Global, faults: u32, spared: u32) -> Result<String, AllocError> {
-    let mut text = String::from_str(alloc, "node n1\nnode n2\nclient a on n1\nclient b on n2\n")?;
+    let mut lines = String::new(alloc);
     let mut number = u64::from(spared) + u64::from(faults);
     for _fault in 0..faults {
         let line = format!(in alloc; "fault sync_folder {number}\n")?;
-        text.push_str(line.as_str())?;
+        lines.push_str(line.as_str())?;
         number = number.saturating_sub(1);
     }
+    behind(alloc, lines.as_str())
+}
+
+/// These lines, and behind them updates that two clients of two nodes make by turns.
+pub fn behind(alloc: Global, lines: &str) -> Result<String, AllocError> {
+    let mut text = String::from_str(alloc, "node n1\nnode n2\nclient a on n1\nclient b on n2\n")?;
+    text.push_str(lines)?;
     for update in 0..UPDATES {
         let client = if update % 2 == 0 { "a" } else { "b" };
         let key = update / 2 % 10;

@@ -2,6 +2,7 @@
 //! that took. It stands on the crates whose work it does. `bench/run` builds and runs it.
 #![tactic(auto)]
 
+mod deaths;
 mod faults;
 mod looks;
 mod reads;
@@ -81,6 +82,8 @@ fn shown(alloc: Global, bytes: &[u8]) -> Result<u64> {
 /// `ds_bench replay` replays scripts of 1,000 and of 20,000 updates over two clients, and `ds_bench reads` scripts of 1,000,
 /// of 5,000 and of 20,000 reads.
 /// `ds_bench faults` replays 30,000 updates, alone and beside 60,000 planned failures.
+/// `ds_bench deaths` replays 30,000 updates, alone and beside 60,000 planned deaths, and scripts in which nodes die and are
+/// brought back.
 /// `ds_bench look` looks in a cache, and makes owners of a value, a million times each.
 /// Without words it does nothing.
 fn main(rt: HostRuntime) -> Result<()> {
@@ -93,6 +96,7 @@ fn main(rt: HostRuntime) -> Result<()> {
         "scripts" => return scripts::run(&rt),
         "replay" => return replays::run(&rt),
         "reads" => return reads::run(&rt),
+        "deaths" => return deaths::run(&rt),
         "faults" => return faults::run(&rt),
         "look" => return looks::run(&rt),
         _ => {}

@@ -48,6 +48,7 @@ module _ {C F V T : Type 0} (c : codec_trait.Ghosts C V) (t : transform_trait.Gh
         list = ap (λ (s : ShelfSeen C F V T). s.list) same ∙ read.same.list;
         owner = ap (λ (s : ShelfSeen C F V T). s.owner) same ∙ read.same.owner;
         room = ap (λ (s : ShelfSeen C F V T). s.room) same ∙ read.same.room;
+        deaths = ap (λ (s : ShelfSeen C F V T). s.deaths) same ∙ read.same.deaths;
         codec = ap (λ (s : ShelfSeen C F V T). s.codec) same ∙ read.same.codec;
         store = ap (λ (s : ShelfSeen C F V T). s.store) same ∙ read.same.store;
       }

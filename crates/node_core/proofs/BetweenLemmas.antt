@@ -9,8 +9,8 @@ use Rattle.hist_journal.specs.Quiet.{pending}
 use Rattle.folder_disk.specs.Contents.{Contents}
 use Rattle.shelf.specs.declared.store.Store.{Store}
 use Rattle.shelf.specs.CallOrder.{is_later}
-use Rattle.step_table.specs.Calls.{At, Call, First, Reading, Migrating, Finishing, Raising, Writing, Creating, Appending, SyncingScratch, Renaming, SyncingFolder, Gone, Changed, Kept, Plan}
-use Rattle.shelf.specs.Deaths.{has_died}
+use Rattle.step_table.specs.Calls.{At, Call, First, Reading, Migrating, Finishing, Raising, Writing, Creating, Appending, SyncingScratch, Renaming, SyncingFolder, Restarting, Gone, Changed, Kept, Plan}
+use Rattle.shelf.specs.Deaths.{died_since}
 use Rattle.shelf.specs.Entries.{is_any}
 use Rattle.shelf.specs.Legal.{value_at}
 use Rattle.shelf.specs.Meanwhile.{NoDeathOf, NoneOf}
@@ -18,12 +18,13 @@ use Rattle.shelf.specs.Rules.{Rules}
 use Rattle.step_table.specs.World.{World}
 use Rattle.shelf.proofs.LastRaises.{ends_in_raise-others}
 use Rattle.shelf.proofs.Bools.{never}
-use Rattle.shelf.proofs.MeanwhileLemmas.{no_death, own, ready, value}
+use Rattle.shelf.proofs.MeanwhileLemmas.{own, ready, value}
 use Rattle.shelf.proofs.PendingMeanwhile.{pending_stays, pending_was}
 use Rattle.node_core.specs.Between.{Between, Undisturbed}
 use Rattle.node_core.specs.Knows.{Holds, IsInScratch, Knows, KnowsContents}
 use Rattle.node_core.specs.Own.{OwnEntries, is_late, HasChanged}
 use Rattle.node_core.specs.Phases.{is_holding, is_raised}
+use Rattle.step_table.proofs.GrowingDeaths.{none_since}
 use Rattle.node_core.proofs.KeepingOn.{due_on}
 
 module _ {V T : Type 0} where
@@ -55,12 +56,12 @@ module _ {V T : Type 0} where
   same_entries c (SyncingFolder (Changed place)) list more none has = has_changed-more c.id place list more none has
   same_entries c other list more none early = own is_late c.id list more none ∙ early
 
-  module _ (c : Call V T) (last now : World V T) (b : Between c last now) (entries : ℕ) (begun : c.since ≡ Some entries) (began : entries ≤ length last.history) (alive : has_died c.id.node c.since now.history ≡ false) where
+  module _ (c : Call V T) (last now : World V T) (b : Between c last now) (entries : ℕ) (begun : c.since ≡ Some entries) (began : entries ≤ length last.history) (alive : died_since c.id.node c.since now.history ≡ false) where
     -- its node did not die
     spared : NoDeathOf c.id.node b.more
     spared =
-        let lives : has_died c.id.node (Some entries) now.history ≡ false = ap (λ since. has_died c.id.node since now.history) (sym begun) ∙ alive in
-        no_death c.id.node entries last.history b.more (ap (has_died c.id.node (Some entries)) (sym b.grew) ∙ lives) began
+        let lives : died_since c.id.node (Some entries) now.history ≡ false = ap (λ since. died_since c.id.node since now.history) (sym begun) ∙ alive in
+        none_since c.id.node entries last.history b.more (ap (died_since c.id.node (Some entries)) (sym b.grew) ∙ lives) began
 
     -- nothing of what it owns was disturbed
     undisturbed : is_holding c.at ≡ true → Undisturbed last now b.more
@@ -87,10 +88,11 @@ module _ {V T M : Type 0} (r : Rules V T) (s : Store V M) where
   nothing_known : (at : At V T) (folder : Contents) (list : List (EntrySeen V T)) → is_holding at ≡ false → KnowsContents r s at folder list
   nothing_known (First ask) folder list is = tt
   nothing_known (Reading purpose ask) folder list is = tt
+  nothing_known (Restarting node) folder list is = tt
   nothing_known Gone folder list is = tt
   nothing_known other folder list is = never (sym is)
 
-  module _ (c : Call V T) (last now : World V T) (k : Knows r s last c) (b : Between c last now) (alive : has_died c.id.node c.since now.history ≡ false) where
+  module _ (c : Call V T) (last now : World V T) (k : Knows r s last c) (b : Between c last now) (alive : died_since c.id.node c.since now.history ≡ false) where
     -- where the call owns the lock, its node did not die, and nothing of what it owns was disturbed
     pub owner_kept : is_holding c.at ≡ true → NoDeathOf c.id.node b.more × Undisturbed last now b.more
     owner_kept is =
@@ -121,7 +123,7 @@ module _ {V T M : Type 0} (r : Rules V T) (s : Store V M) where
         let same : value_at r.meanings s now.history ≡ value_at r.meanings s last.history = rw b.grew (value r.meanings.after s.base last.history b.more facts.1.outer) in
         same_contents last.folder now.folder last.history now.history (facts.1.scratch told_then) same c.at (k.contents told_then)
 
-    -- a call whose node did not die still knows what it knew
+    -- a call whose node did not die since it began still knows what it knew
     pub between_keeps_knowledge : Knows r s now c
     between_keeps_knowledge =
         record {

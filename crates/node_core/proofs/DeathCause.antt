@@ -1,6 +1,5 @@
 -- A call that a Death ended: what the history shows of it.
 use Rattle.std.proofs.Common.{◌≡◌, ◌+◌, ℕ, Bool, true, false, List, [], ◌∷◌, ◌++◌, Option, Some, None, length, refl, ap, arith, if◌then◌else◌}
-use Rattle.std.specs.List.{list_any}
 use Rattle.std.specs.Option.{option_map, option_or}
 use Rattle.std.proofs.lemmas.Bool.{eq-eqb}
 use Rattle.store_traits.specs.declared.ids.CallId.{CallId}
@@ -11,16 +10,13 @@ use Rattle.hist_journal.specs.Kinds.{is_death_of}
 use Rattle.shelf.specs.Causes.{IsDead}
 use Rattle.shelf.specs.Deaths.{last_death}
 use Rattle.shelf.specs.Meanwhile.{NoDeathOf}
-use Rattle.shelf.specs.Places.{StandsAt, is_up_to}
+use Rattle.shelf.specs.Places.{StandsAt}
+use Rattle.node_core.specs.Silence.{IsSilent}
 
 module _ {V T : Type 0} where
   -- a Death of this node
   abbrev pub dies : NodeId → EntrySeen V T → Bool
   dies node e = is_death_of node e.kind
-
-  -- no entry of a call of this client up to this one stands behind the last Death of its node
-  abbrev pub IsSilent : CallId → List (EntrySeen V T) → Type 0
-  IsSilent call list = (place : ℕ) (death : StandsAt (dies call.node) place list) → NoDeathOf call.node death.behind → list_any (is_up_to call) death.behind ≡ false
 
   -- the last Death stands at its place
   pub record IsLast (node : NodeId) (place : ℕ) (list : List (EntrySeen V T)) : Type 0 where
@@ -63,11 +59,16 @@ module _ {V T : Type 0} where
           record { death = record { before = []; entry = e; behind = es; is = refl; counted = omega (arith, counted); passed = dead }; last = no_later_death node es later }
       by_rest rest None later false lives found = absurd (cc)
 
-  -- its node was dead before
+  -- a silent call is dead by the last Death of its node
   pub dead_before : (call : CallId) (list : List (EntrySeen V T)) (place : ℕ) → IsSilent call list → last_death call.node list ≡ Some place → IsDead call place list
   dead_before call list place silent is = let it = last_death_stands call.node list place is in record { death = it.death; over = silent place it.death it.last }
 
-  -- its node dies now
-  pub dead_now : (call : CallId) (list now : List (EntrySeen V T)) → now ≡ list ++ record { who = call; kind = Death call.node } ∷ [] → IsDead call (length list + 1) now
-  dead_now call list now grew =
-      record { death = record { before = list; entry = record { who = call; kind = Death call.node }; behind = []; is = grew; counted = refl; passed = eq-eqb call.node.0 call.node.0 refl }; over = refl }
+  -- a Death at the end is the last one
+  last_death_now : (node : NodeId) (list : List (EntrySeen V T)) (e : EntrySeen V T) → is_death_of node e.kind ≡ true → last_death node (list ++ e ∷ []) ≡ Some (length list + 1)
+  unfolding last_death
+  last_death_now node [] e dead = rw dead refl
+  last_death_now node (x ∷ xs) e dead = rw (last_death_now node xs e dead) (ap Some (omega arith))
+
+  -- so it is where its node dies now
+  pub dead_now : (call : CallId) (list : List (EntrySeen V T)) → last_death call.node (list ++ record { who = call; kind = Death call.node } ∷ []) ≡ Some (length list + 1)
+  dead_now call list = last_death_now call.node list (record { who = call; kind = Death call.node }) (eq-eqb call.node.0 call.node.0 refl)

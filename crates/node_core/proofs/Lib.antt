@@ -3,6 +3,8 @@ pub mod ApplyLemmas
 pub mod BetweenLemmas
 pub mod CauseOfAnswers
 pub mod DeathCause
+pub mod DyingFits
+pub mod DyingTurns
 pub mod EarlyLemmas
 pub mod EndLemmas
 pub mod EquippedLemmas
@@ -15,13 +17,17 @@ pub mod KeepingWrites
 pub mod LockLemmas
 pub mod MovingLemmas
 pub mod NewCalls
+pub mod PlanLemmas
 pub mod PublishedLemmas
 pub mod ReadLemmas
 pub mod ReadinessLemmas
 pub mod ReadyLemmas
 pub mod RenameLemmas
+pub mod RestartTurns
 pub mod RoomLemmas
 pub mod RowLemmas
+pub mod ShelfReads
+pub mod SilenceLemmas
 pub mod SparingLemmas
 pub mod StepsLemmas
 pub mod TurnLemmas

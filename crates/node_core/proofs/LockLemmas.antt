@@ -14,6 +14,7 @@ use Rattle.hist_journal.specs.Nodes.{is_ready}
 use Rattle.shelf.specs.declared.answers.Want.{Want}
 use Rattle.shelf.specs.declared.answers.Want.TheVariants as want
 use Rattle.shelf.specs.declared.shelf.Shelf.{Shelf}
+use Rattle.shelf.specs.DeathPlan.{DeathPlanSeen}
 use Rattle.shelf.specs.Ledger.{LedgerSeen, ledger_seen}
 use Rattle.shelf.specs.Takes.{HasNone, HasSpace, TakesLock, needs_lock}
 use Rattle.shelf.specs.ShelfSeen.{ShelfSeen, shelf_seen}
@@ -49,21 +50,21 @@ module _ {P C T F V : Type 0} {c : codec_trait.Ghosts C V} {t : transform_trait.
       → MayTake (rules_seen c t f (shelf_seen s)) (shelf_seen s).store (world_seen f (shelf_seen s)) call ask
   may_take ask call s free space = record { free = free; bounds = λ needs. let space = space needs in record { entries = space.entries; weight = rw (weighs s) at space.weight } }
 
-  module _ (origin : Origin) (ask : Ask T) (old new : Shelf P C T F V c t f) (codec : new.codec ≡ old.codec) (folder : new.folder ≡ old.folder) (store : (shelf_seen new).store ≡ (shelf_seen old).store) where
+  module _ (origin : Origin) (ask : Ask T) (old new : Shelf P C T F V c t f) (deaths : new.deaths ≡ old.deaths) (codec : new.codec ≡ old.codec) (folder : new.folder ≡ old.folder) (store : (shelf_seen new).store ≡ (shelf_seen old).store) where
     -- the lock is taken, with room for what the holding can add
     pub takes_lock : (ready : Bool) → TakesLock origin.call (want_of ask) ready (ledger_seen old.ledger) (ledger_seen new.ledger)
         → Steps c t f origin (First ask) (shelf_seen old) Moved (Reading (if ready then Serve else Initialise) ask) (shelf_seen new)
     takes_lock true it =
         goes_on c t f origin (First ask) (shelf_seen old) (shelf_seen new) (takes (may_take ask origin.call old it.free it.space) it.readiness)
-        (record { list = it.after.list; owner = it.after.owner; room = it.after.room; codec = codec; store = store }) folder (record { entries = omega (arith, it.after.room); room = tt; may = λ told. tt })
+        (record { list = it.after.list; owner = it.after.owner; room = it.after.room; deaths = ap (λ (plan : DeathPlanSeen). plan.left) deaths; codec = codec; store = store }) folder (record { entries = omega (arith, it.after.room); room = tt; may = λ told. tt })
     takes_lock false it =
         goes_on c t f origin (First ask) (shelf_seen old) (shelf_seen new) (takes_first (may_take ask origin.call old it.free it.space) it.readiness)
-        (record { list = it.after.list; owner = it.after.owner; room = it.after.room; codec = codec; store = store }) folder (record { entries = omega (arith, it.after.room); room = tt; may = λ told. tt })
+        (record { list = it.after.list; owner = it.after.owner; room = it.after.room; deaths = ap (λ (plan : DeathPlanSeen). plan.left) deaths; codec = codec; store = store }) folder (record { entries = omega (arith, it.after.room); room = tt; may = λ told. tt })
 
-  module _ (old new : Shelf P C T F V c t f) (codec : new.codec ≡ old.codec) (folder : new.folder ≡ old.folder) (store : (shelf_seen new).store ≡ (shelf_seen old).store) where
+  module _ (old new : Shelf P C T F V c t f) (deaths : new.deaths ≡ old.deaths) (codec : new.codec ≡ old.codec) (folder : new.folder ≡ old.folder) (store : (shelf_seen new).store ≡ (shelf_seen old).store) where
     -- a ledger that stayed leaves the shelf as it was, where its folder did
     pub stays : ledger_seen new.ledger ≡ ledger_seen old.ledger → shelf_seen new ≡ shelf_seen old
-    stays same = rw (store, codec, folder, ap (λ (l : LedgerSeen V T). l.list) same, ap (λ (l : LedgerSeen V T). l.owner) same, ap (λ (l : LedgerSeen V T). l.room) same) refl
+    stays same = rw (store, ap (λ (plan : DeathPlanSeen). plan.left) deaths, codec, folder, ap (λ (l : LedgerSeen V T). l.list) same, ap (λ (l : LedgerSeen V T). l.owner) same, ap (λ (l : LedgerSeen V T). l.room) same) refl
 
   -- the lock is not taken, and the call, which may own it, ends
   module _ (origin : Origin) (ask : Ask T) (old : Shelf P C T F V c t f) (mid new : ShelfSeen C F V T) (same : mid ≡ shelf_seen old) (frees : Frees origin.call [] mid new) (folder : new.folder ≡ mid.folder) where
@@ -88,6 +89,7 @@ module _ {C F V T : Type 0} (c : codec_trait.Ghosts C V) (t : transform_trait.Gh
         list = ap (λ (s : ShelfSeen C F V T). s.list) same;
         owner = ap (λ (s : ShelfSeen C F V T). s.owner) same;
         room = refl;
+        deaths = ap (λ (s : ShelfSeen C F V T). s.deaths) same;
         codec = ap (λ (s : ShelfSeen C F V T). s.codec) same;
         store = ap (λ (s : ShelfSeen C F V T). s.store) same;
       }) (ap (λ (s : ShelfSeen C F V T). s.folder) same) (record { entries = omega arith; room = tt; may = λ told. tt })

@@ -20,7 +20,8 @@ use Rattle.node_core.specs.Own.{is_late}
 use Rattle.node_core.specs.Ready.{Ready}
 
 module _ {V T : Type 0} (call : CallId) (list : List (EntrySeen V T)) (none : NoneOf call list) where
-  unraised : {X : Type 0} → pending list ≡ Some call → X
+  -- and its raise is not open
+  pub unraised : {X : Type 0} → pending list ≡ Some call → X
   unraised is = never (sym (no_kind call is_raise list none) ∙ pending_own call list is)
 
 pub new_is_ready : {C F V T : Type 0} (c : codec_trait.Ghosts C V) (t : transform_trait.Ghosts T V) (f : folder_trait.Ghosts F) (call : CallId) (ask : Ask T) (s : ShelfSeen C F V T)

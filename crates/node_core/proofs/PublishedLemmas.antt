@@ -40,7 +40,7 @@ use Rattle.node_core.specs.Knows.{Knows}
 use Rattle.node_core.specs.Phases.{is_holding, is_raised}
 use Rattle.node_core.specs.Plans.{PlanAt}
 use Rattle.node_core.specs.Reading.{ReadsTruly}
-use Rattle.node_core.proofs.MovingLemmas.{moves, moved_row}
+use Rattle.node_core.proofs.MovingLemmas.{gave_lives, moved_lives, moved_row, moves}
 
 -- no raise is open but that of the lock's owner
 abbrev pub IsQuietBut : {V T : Type 0} → Option CallId → List (EntrySeen V T) → Type 0
@@ -118,21 +118,25 @@ module _ {V T M : Type 0} (r : Rules V T) (s : Store V M) where
     row_quiet (acknowledges {ending}) plan raised owns = acknowledged_quiet ending (λ is. never (raised.1 is))
     row_quiet {e = e} other plan raised owns = ended_quiet call w.owner w.history quiet (λ is. never (raised.1 is)) (all_kinds e.folder count e.kinds) refl
 
-  module _ (t : Turned V T) (gave : Progress (Reply V)) (turn : Turn r s t gave) (k : Knows r s t.world t.call) (quiet : IsQuietBut t.world.owner t.world.history) where
-    quiet_by : (gone dies : Bool) (e : Effect V T) → AllowedBy r s gone false dies (begin t) e → Comes (begin t) e gave → IsQuietBut t.world_after.owner t.world_after.history
-    quiet_by true dies e it comes = absurd it
-    quiet_by false true e it comes =
+  module _ (t : Turned V T) (gave : Progress (Reply V)) (turn : Turn r s t gave) (knows : has_died_by (begin t) ≡ false → Knows r s t.world t.call) (quiet : IsQuietBut t.world.owner t.world.history) where
+    quiet_by : (gone died dies : Bool) (e : Effect V T) → AllowedBy r s gone died dies (begin t) e → (died ≡ false → Knows r s t.world t.call) → Comes (begin t) e gave → IsQuietBut t.world_after.owner t.world_after.history
+    quiet_by true died dies e it k comes = absurd it
+    quiet_by false true dies e it k comes =
+        let ceased = (rw it.is at comes) in
+        rw (ap (λ (w : World V T). w.owner) ceased.world, ap (λ (w : World V T). w.history) ceased.world) quiet
+    quiet_by false false true e it k comes =
         let dead = (rw it at comes) in
         rw (ap (λ (w : World V T). w.owner) dead.world, ap (λ (w : World V T). w.history) dead.world) (dying_quiet t.call.id t.world.owner t.world.history quiet)
-    quiet_by false false e it comes =
+    quiet_by false false false e it k comes =
+        let k = k refl in
         rw (ap (λ (w : World V T). w.owner) comes.world, ap (λ (w : World V T). w.history) comes.world)
         (row_quiet t.world t.call.id t.world_after.tally.count quiet it k.plan k.raised (λ holding. (k.holds holding).owns))
 
-    -- behind a turn of a call whose node has not died before, no raise is open but that of the lock's owner
-    pub turn_quiet : has_died_by (begin t) ≡ false → IsQuietBut t.world_after.owner t.world_after.history
-    turn_quiet lives = quiet_by (is_gone t.call.at) (dies_now (begin t)) turn.effect (rw lives at turn.allowed) turn.comes
+    -- behind a turn no raise is open but that of the lock's owner: a dead call changes nothing
+    pub turn_quiet : IsQuietBut t.world_after.owner t.world_after.history
+    turn_quiet = quiet_by (is_gone t.call.at) (has_died_by (begin t)) (dies_now (begin t)) turn.effect turn.allowed knows turn.comes
 
-  module _ (t : Turned V T) (k : Knows r s t.world t.call) (reads : ReadsTruly r s t.world) (told : IsTrue t.world.told) (version : t.world.version ≡ raises_of t.world.history) (quiet : IsQuietBut t.world.owner t.world.history) where
+  module _ (t : Turned V T) (knows : has_died_by (begin t) ≡ false → Knows r s t.world t.call) (reads : ReadsTruly r s t.world) (told : IsTrue t.world.told) (version : t.world.version ≡ raises_of t.world.history) (quiet : IsQuietBut t.world.owner t.world.history) where
     abbrev IsOfNow : Option (Cached V) → Type 0
     IsOfNow published = IfSome published (IsValueOf r.meanings.after s.base t.world_after.history)
 
@@ -149,6 +153,7 @@ module _ {V T M : Type 0} (r : Rules V T) (s : Store V M) where
     -- the value that is renamed over main is that of its change
     renamed_is : (plan : Plan V T) → t.call.at ≡ Writing Renaming plan → Turn r s t Moved → IsOfNow (published_by (Writing Renaming plan) Moved t.world_after)
     renamed_is plan is turn =
+        let k = knows (moved_lives r s t turn) in
         let row = moved_row r s t turn in
         let grew : Renames (Writing Renaming plan) = subst Renames is (row_renames row.0 row.1 turn.comes) in
         let asked = (let plans = k.plan in (rw is at plans).asked) in
@@ -165,6 +170,7 @@ module _ {V T M : Type 0} (r : Rules V T) (s : Store V M) where
     -- what is read under the lock is the value of the history
     read_is : t.call.at ≡ Reading Serve Read → (edition : ℕ) (value : V) → Turn r s t (Ended (Gave edition value)) → IsOfNow (published_by (Reading Serve Read) (Ended (Gave edition value)) t.world_after)
     read_is is edition value turn =
+        let k = knows (gave_lives r s t edition value turn) in
         let given = turn_gives r s edition value t turn in
         let owns = (k.holds (rw is refl)).owns in
         record {
@@ -179,6 +185,6 @@ module _ {V T M : Type 0} (r : Rules V T) (s : Store V M) where
     published_is (Writing Renaming plan) is Moved turn = renamed_is plan is turn
     published_is at is gave turn = tt
 
-    -- what a turn publishes is of the history behind it
+    -- what a turn publishes is of the history behind it, and a dead call publishes nothing
     pub turn_publishes : (gave : Progress (Reply V)) → Turn r s t gave → IsOfNow (published_by t.call.at gave t.world_after)
     turn_publishes gave turn = published_is t.call.at refl gave turn

@@ -36,6 +36,7 @@ module _ {C F V T : Type 0} {call : CallId} {kinds : List (KindSeen V T)} {room 
         list = frees.list ∙ leaves.list;
         owner = frees.owner ∙ ap (freed call) leaves.owner;
         room = refl;
+        deaths = frees.deaths ∙ leaves.deaths;
         codec = frees.codec ∙ leaves.codec;
         store = frees.store ∙ leaves.store;
       }
@@ -54,11 +55,11 @@ module _ {C F V T : Type 0} (f : folder_trait.Ghosts F) (old new : ShelfSeen C F
   -- such a turn comes of the effect
   comes : (origin : Origin) (at : At V T) (next : Next V T) (used : FolderUse) (room : ℕ) → LeavesBy used next origin.call room → Touches used
       → Comes (turned f origin at old origin (at_by next at) new) (record { next = next; kinds = kinds; folder = used; dies = false }) (gave_by next)
-  comes origin at next Unused room leaves same = record { given = refl; used = tt; world = rw (same, version_left leaves, leaves.owner, leaves.list) refl; call = refl }
-  comes origin at next (Served request) room leaves serves = record { given = refl; used = serves; world = rw (version_left leaves, leaves.owner, leaves.list) refl; call = refl }
+  comes origin at next Unused room leaves same = record { given = refl; used = tt; world = rw (same, version_left leaves, leaves.deaths, leaves.owner, leaves.list) refl; call = refl }
+  comes origin at next (Served request) room leaves serves = record { given = refl; used = serves; world = rw (version_left leaves, leaves.deaths, leaves.owner, leaves.list) refl; call = refl }
   comes origin at next (Faulted request) room leaves failed =
       let version : raises_of new.list ≡ raised_by kinds (raises_of old.list) = rw failed.0 (version_left (rw failed.0 at leaves)) in
-      record { given = refl; used = failed.1; world = rw (version, leaves.owner, leaves.list) refl; call = refl }
+      record { given = refl; used = failed.1; world = rw (version, leaves.deaths, leaves.owner, leaves.list) refl; call = refl }
 
 module _ {C F V T : Type 0} (c : codec_trait.Ghosts C V) (t : transform_trait.Ghosts T V) (f : folder_trait.Ghosts F) (origin : Origin) (at : At V T) (old : ShelfSeen C F V T) where
   -- the table has this effect

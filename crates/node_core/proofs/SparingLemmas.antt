@@ -1,5 +1,5 @@
 -- What a turn does to other calls: it adds entries of its own call alone, and disturbs nothing of whoever owns the lock.
-use Rattle.std.proofs.Common.{◌≡◌, ◌≢◌, ◌∙◌, ◌⊎◌, inl, inr, ◌==◌, Bool, true, false, ℕ, List, [], ◌++◌, IsTrue, Some, refl, sym, ap, arith}
+use Rattle.std.proofs.Common.{◌≡◌, ◌≢◌, ◌∙◌, ◌⊎◌, inl, inr, ◌==◌, Bool, true, false, ℕ, List, ◌++◌, IsTrue, Some, refl, sym, ap, arith}
 use Rattle.std.specs.List.{list_any}
 use Rattle.std.proofs.lemmas.Bool.{eq-eqb}
 use Rattle.std.proofs.lemmas.Bool.Decides.{nat_tests}
@@ -16,9 +16,9 @@ use Rattle.shelf.specs.Meanwhile.{are_outer}
 use Rattle.shelf.specs.Rules.{Rules}
 use Rattle.shelf.proofs.Bools.{never}
 use Rattle.step_table.specs.Calls.{At, Call, Reply, is_gone}
-use Rattle.step_table.specs.Effects.{Comes, Effect, Ends, Faulted, FolderUse, Frees, Goes, Next, Served, Stays, Takes, Unused, Uses, Waits, all_kinds, left_by, owner_by}
+use Rattle.step_table.specs.Effects.{Ceases, Comes, Effect, Ends, Faulted, FolderUse, Frees, Goes, Next, Served, Stays, Takes, Unused, Uses, Waits, all_kinds, left_by, owner_by}
 use Rattle.step_table.specs.Requests.{ReadMain}
-use Rattle.step_table.specs.Rows.{Row, waits, full, lacks_room, takes_first, takes, goes_without, read_fails, read_lacks_memory, lacks_memory, too_long, unreadable, gives}
+use Rattle.step_table.specs.Rows.{Row, waits, full, lacks_room, takes_first, takes, goes_without, read_fails, read_lacks_memory, lacks_memory, too_long, unreadable, gives, finds_alive, lacks_room_to_restart, restarts}
 use Rattle.step_table.specs.Turn.{AllowedBy, Turn, dying, has_died_by, dies_now}
 use Rattle.step_table.specs.World.{World, Turned, begin}
 use Rattle.step_table.specs.declared.progress.Progress.{Progress}
@@ -55,16 +55,20 @@ module _ {V T : Type 0} where
   leaves_lock (Goes Frees at) = false
   leaves_lock other = true
 
-  -- main is read at most, and nothing is told of but a Fault of that
-  record IsBystander (e : Effect V T) : Type 0 where
+  -- the entries that an effect adds, where the folder has this count of faults behind it
+  abbrev told_by : CallId → ℕ → Effect V T → List (EntrySeen V T)
+  told_by call count e = entries_of call (all_kinds e.folder count e.kinds)
+
+  -- main is read at most, and nothing is told of but a Fault of that, or a Restart
+  record IsBystander (call : CallId) (e : Effect V T) : Type 0 where
     reads : is_reading e.folder ≡ true
     lock : leaves_lock e.next ≡ true
-    kinds : e.kinds ≡ []
+    outer : (count : ℕ) → are_outer (told_by call count e) ≡ true
     lives : e.dies ≡ false
 
   -- what a call may do that owns nothing, while another owns the lock
   data Yields (t : Turned V T) : Effect V T → Type 0 where
-    stands_by : {e : Effect V T} → IsBystander e → Yields t e
+    stands_by : {e : Effect V T} → IsBystander t.call.id e → Yields t e
     dies : Yields t (dying t)
 
 module _ {V T M : Type 0} (r : Rules V T) (s : Store V M) where
@@ -75,25 +79,28 @@ module _ {V T M : Type 0} (r : Rules V T) (s : Store V M) where
       record { more = entries_of t.call.id own.kinds; added = own.added ∙ all_added t.call.id own.kinds t.world.history; unseen = none_passes t.call.id own.kinds }
 
   row_yields : (t : Turned V T) {at : At V T} {e : Effect V T} → Row r s t.world t.call.id at e → is_holding at ≡ false → IsAnother t.world.owner t.call.id → Yields t e
-  row_yields t (waits another must) free owned = stands_by (record { reads = refl; lock = refl; kinds = refl; lives = refl })
+  row_yields t (waits another must) free owned = stands_by (record { reads = refl; lock = refl; outer = λ count. refl; lives = refl })
   row_yields t (full is_free must bound) free owned = absurd (is_free owned)
-  row_yields t (lacks_room may) free owned = stands_by (record { reads = refl; lock = refl; kinds = refl; lives = refl })
+  row_yields t (lacks_room may) free owned = stands_by (record { reads = refl; lock = refl; outer = λ count. refl; lives = refl })
   row_yields t (takes_first may unready) free owned = absurd (may.free owned)
   row_yields t (takes may ready) free owned = absurd (may.free owned)
-  row_yields t (goes_without another need_not) free owned = stands_by (record { reads = refl; lock = refl; kinds = refl; lives = refl })
-  row_yields t read_fails free owned = stands_by (record { reads = refl; lock = refl; kinds = refl; lives = refl })
-  row_yields t read_lacks_memory free owned = stands_by (record { reads = refl; lock = refl; kinds = refl; lives = refl })
-  row_yields t lacks_memory free owned = stands_by (record { reads = refl; lock = refl; kinds = refl; lives = refl })
-  row_yields t (too_long read) free owned = stands_by (record { reads = refl; lock = refl; kinds = refl; lives = refl })
-  row_yields t (unreadable read unreplaced) free owned = stands_by (record { reads = refl; lock = refl; kinds = refl; lives = refl })
-  row_yields t (gives plain read) free owned = stands_by (record { reads = refl; lock = refl; kinds = refl; lives = refl })
+  row_yields t (goes_without another need_not) free owned = stands_by (record { reads = refl; lock = refl; outer = λ count. refl; lives = refl })
+  row_yields t read_fails free owned = stands_by (record { reads = refl; lock = refl; outer = λ count. refl; lives = refl })
+  row_yields t read_lacks_memory free owned = stands_by (record { reads = refl; lock = refl; outer = λ count. refl; lives = refl })
+  row_yields t lacks_memory free owned = stands_by (record { reads = refl; lock = refl; outer = λ count. refl; lives = refl })
+  row_yields t (too_long read) free owned = stands_by (record { reads = refl; lock = refl; outer = λ count. refl; lives = refl })
+  row_yields t (unreadable read unreplaced) free owned = stands_by (record { reads = refl; lock = refl; outer = λ count. refl; lives = refl })
+  row_yields t (gives plain read) free owned = stands_by (record { reads = refl; lock = refl; outer = λ count. refl; lives = refl })
+  row_yields t (finds_alive alive) free owned = stands_by (record { reads = refl; lock = refl; outer = λ count. refl; lives = refl })
+  row_yields t (lacks_room_to_restart dead) free owned = stands_by (record { reads = refl; lock = refl; outer = λ count. refl; lives = refl })
+  row_yields t (restarts dead) free owned = stands_by (record { reads = refl; lock = refl; outer = λ count. refl; lives = refl })
   row_yields t other free owned = never (sym free)
 
-  yields_by : (gone died dies : Bool) (t : Turned V T) (e : Effect V T) → AllowedBy r s gone died dies t e → is_holding t.call.at ≡ false → IsAnother t.world.owner t.call.id → Yields t e
+  yields_by : (gone died dies : Bool) (t : Turned V T) (e : Effect V T) → AllowedBy r s gone died dies t e → (died ≡ false → is_holding t.call.at ≡ false) → IsAnother t.world.owner t.call.id → Yields t e
   yields_by true is_dead strikes t e it free owned = absurd it
-  yields_by false true strikes t e it free owned = rw it.is (stands_by (record { reads = refl; lock = refl; kinds = refl; lives = refl }))
+  yields_by false true strikes t e it free owned = rw it.is (stands_by (record { reads = refl; lock = refl; outer = λ count. refl; lives = refl }))
   yields_by false false true t e it free owned = rw it dies
-  yields_by false false false t e it free owned = row_yields t it free owned
+  yields_by false false false t e it free owned = row_yields t it (free refl) owned
 
   -- where another call owns the lock, this one does not
   owns_nothing : (t : Turned V T) → Knows r s t.world t.call → (other : CallId) → t.world.owner ≡ Some other → other ≢ t.call.id → is_holding t.call.at ≡ false
@@ -103,9 +110,8 @@ module _ {V T M : Type 0} (r : Rules V T) (s : Store V M) where
     by_own false free = refl
 
   module _ (other : Call V T) (t : Turned V T) (gave : Progress (Reply V)) (apart : (other.id.client.0 == t.call.id.client.0) ≡ false) where
-    -- the entries that an effect adds
     abbrev added_by : Effect V T → List (EntrySeen V T)
-    added_by e = entries_of t.call.id (all_kinds e.folder t.world_after.tally.count e.kinds)
+    added_by e = told_by t.call.id t.world_after.tally.count e
 
     -- where main is read at most, the scratch file stays, and nothing but a Fault is told of
     scratch_stays : (used : FolderUse) (e : Effect V T) → is_reading used ≡ true → Uses t e used → t.world_after.folder ≡ left_by used t.world.folder t.world_after.folder
@@ -115,23 +121,19 @@ module _ {V T M : Type 0} (r : Rules V T) (s : Store V M) where
     scratch_stays (Faulted ReadMain) e reads uses left told = ap (λ (c : Contents). c.scratch) (uses.folder told)
     scratch_stays used e reads uses left told = never reads
 
-    outer_added : (used : FolderUse) (count : ℕ) → are_outer (entries_of {V = V} {T = T} t.call.id (all_kinds used count [])) ≡ true
-    outer_added Unused count = refl
-    outer_added (Served request) count = refl
-    outer_added (Faulted request) count = refl
-
     owner_stays : (next : Next V T) → leaves_lock next ≡ true → owner_by next t.call.id (Some other.id) ≡ Some other.id
     owner_stays Waits leaves = refl
     owner_stays (Goes Stays at) leaves = refl
+    owner_stays (Ceases place) leaves = refl
     owner_stays (Ends reply) leaves = another_keeps (is_call t.call.id other.id) other.id (not_call other.id t.call.id apart).1
     owner_stays next leaves = never leaves
 
-    undisturbed : (e : Effect V T) → IsBystander e → Comes t e gave → t.world.owner ≡ Some other.id → Undisturbed t.world t.world_after (added_by e)
+    undisturbed : (e : Effect V T) → IsBystander t.call.id e → Comes t e gave → t.world.owner ≡ Some other.id → Undisturbed t.world t.world_after (added_by e)
     undisturbed e by comes owns =
         record {
           owner = ap (λ (w : World V T). w.owner) comes.world ∙ rw (by.lives, owns) (owner_stays e.next by.lock);
           scratch = scratch_stays e.folder e by.reads comes.used (ap (λ (w : World V T). w.folder) comes.world);
-          outer = rw by.kinds (outer_added e.folder t.world_after.tally.count);
+          outer = by.outer t.world_after.tally.count;
         }
 
     -- what such an effect leaves of the lock's owner
@@ -147,8 +149,8 @@ module _ {V T M : Type 0} (r : Rules V T) (s : Store V M) where
           outer = refl;
         })
 
-  -- a turn leaves a call of another client what it knows
-  pub turn_spares : (t : Turned V T) (gave : Progress (Reply V)) → Turn r s t gave → Knows r s t.world t.call → (other : Call V T) → (other.id.client.0 == t.call.id.client.0) ≡ false → Knows r s t.world other
+  -- a turn leaves a call of another client what it knows, also where the turn's own call is dead and knows nothing
+  pub turn_spares : (t : Turned V T) (gave : Progress (Reply V)) → Turn r s t gave → (has_died_by (begin t) ≡ false → Knows r s t.world t.call) → (other : Call V T) → (other.id.client.0 == t.call.id.client.0) ≡ false → Knows r s t.world other
       → Between other t.world t.world_after
   turn_spares t gave it knows other apart knows_other =
       let e = it.effect in
@@ -162,5 +164,5 @@ module _ {V T M : Type 0} (r : Rules V T) (s : Store V M) where
         held = λ holds.
             let owns = (knows_other.holds holds).owns in
             let differs = unlike other.id t.call.id apart in
-            spared other (begin t) gave apart e (yields_by (is_gone t.call.at) (has_died_by (begin t)) (dies_now (begin t)) (begin t) e it.allowed (owns_nothing t knows other.id owns differs) (rw owns differs)) it.comes owns;
+            spared other (begin t) gave apart e (yields_by (is_gone t.call.at) (has_died_by (begin t)) (dies_now (begin t)) (begin t) e it.allowed (λ lives. owns_nothing t (knows lives) other.id owns differs) (rw owns differs)) it.comes owns;
       }

@@ -10,7 +10,9 @@ pub mod Plans
 pub mod ReadMain
 pub mod Reading
 pub mod Ready
+pub mod Restarting
 pub mod Shown
+pub mod Silence
 pub mod Step
 pub mod Steps
 pub mod StepsLeft

@@ -5,7 +5,7 @@ use Rattle.store_traits.specs.declared.ids.CallId.{CallId}
 use Rattle.hist_journal.specs.declared.seen.EntrySeen.{EntrySeen}
 use Rattle.hist_journal.specs.declared.seen.KindSeen.{KindSeen}
 use Rattle.hist_journal.specs.declared.seen.KindSeen.TheVariants.{Raise, Edit, Inited}
-use Rattle.step_table.specs.Calls.{Ask, Update, Read, At, First, Reading, Migrating, Finishing, Raising, Writing, SyncingFolder, Gone, Changed, Kept, Plan}
+use Rattle.step_table.specs.Calls.{Ask, Update, Read, At, First, Reading, Migrating, Finishing, Raising, Writing, SyncingFolder, Restarting, Gone, Changed, Kept, Plan}
 use Rattle.shelf.specs.Entries.{is_own}
 use Rattle.shelf.specs.Meanwhile.{NoneOf}
 
@@ -53,4 +53,5 @@ module _ {V T : Type 0} where
   IsFor call asked (Writing stage plan) list = WritesFor asked plan
   IsFor call asked (SyncingFolder (Kept edit)) list = asked ≡ Update edit
   IsFor call asked (SyncingFolder (Changed place)) list = (changed : HasChanged call place list) × (asked ≡ Update changed.edit)
+  IsFor call asked (Restarting node) list = ⊥
   IsFor call asked Gone list = Unit {0}

@@ -1,7 +1,7 @@
 -- What each step says of its call: what it owns, and how much room it has left.
 use Rattle.std.specs.Prelude.{ℕ, Bool, true, false}
 use Rattle.shelf.specs.Takes.{most_entries}
-use Rattle.step_table.specs.Calls.{Ask, At, First, Purpose, Initialise, Serve, ServeUnlocked, Reading, Migrating, Finishing, Raising, Writing, SyncingFolder, Gone, Changed, Kept, initialises, want_of}
+use Rattle.step_table.specs.Calls.{Ask, At, First, Purpose, Initialise, Serve, ServeUnlocked, Reading, Migrating, Finishing, Raising, Writing, SyncingFolder, Restarting, Gone, Changed, Kept, initialises, want_of}
 
 -- main is read under the lock
 abbrev pub is_locked : Purpose → Bool
@@ -18,6 +18,7 @@ module _ {V T : Type 0} where
   abbrev pub is_holding : At V T → Bool
   is_holding (First ask) = false
   is_holding (Reading purpose ask) = is_locked purpose
+  is_holding (Restarting node) = false
   is_holding Gone = false
   is_holding other = true
 
@@ -48,4 +49,5 @@ module _ {V T : Type 0} where
   room_at (Writing stage plan) = 2
   room_at (SyncingFolder (Changed place)) = 1
   room_at (SyncingFolder (Kept edit)) = 3
+  room_at (Restarting node) = 0
   room_at Gone = 0

@@ -12,6 +12,7 @@ use Rattle.hist_journal.specs.Folds.{edition_of}
 use Rattle.shelf.specs.declared.store.Store.{Store}
 use Rattle.shelf.specs.Acknowledged.{IsUpdated}
 use Rattle.shelf.specs.Causes.{HasCause, HasReadCause, IsUncertain, IsUncertainSame}
+use Rattle.shelf.specs.Deaths.{last_death}
 use Rattle.shelf.specs.Legal.{value_at}
 use Rattle.shelf.specs.Rules.{Rules}
 use Rattle.step_table.specs.Calls.{Ask, Update, Read, Reply, Updated, Gave, Failed}
@@ -33,13 +34,13 @@ as_read error.NoMemory = Some read.NoMemory
 
 -- `shown` is an edition that was reached before; what speaks of the value or of main is shown where the folder tells what it holds
 module _ {V T M : Type 0} (told : Bool) (r : Rules V T) (s : Store V M) (shown : ℕ) (call : CallId) where
-  -- why an update ended so
+  -- why an update ended so; of a death this shows its place, the last Death of the call's node
   abbrev pub ShowsCause : T → UpdateError → List (EntrySeen V T) → Type 0
   ShowsCause edit (error.HistoryFull entries weight) list = HasCause r s shown call edit (error.HistoryFull entries weight) list
   ShowsCause edit (error.StorageFault at) list = HasCause r s shown call edit (error.StorageFault at) list
   ShowsCause edit (error.NotDurable at) list = IsUncertain call at list ⊎ (IsTrue told → IsUncertainSame r s call edit at list)
   ShowsCause edit (error.LegacyFault at) list = HasCause r s shown call edit (error.LegacyFault at) list
-  ShowsCause edit (error.Died at) list = HasCause r s shown call edit (error.Died at) list
+  ShowsCause edit (error.Died at) list = last_death call.node list ≡ Some at
   ShowsCause edit error.NoMemory list = Unit {0}
   ShowsCause edit other list = IsTrue told → HasCause r s shown call edit other list
 
@@ -48,6 +49,7 @@ module _ {V T M : Type 0} (told : Bool) (r : Rules V T) (s : Store V M) (shown :
   ShowsReadCause read.Corrupt list = IsTrue told → HasReadCause r s shown call read.Corrupt list
   ShowsReadCause (read.FileTooLong len) list = IsTrue told → HasReadCause r s shown call (read.FileTooLong len) list
   ShowsReadCause (read.ValueTooLong len) list = IsTrue told → HasReadCause r s shown call (read.ValueTooLong len) list
+  ShowsReadCause (read.Died at) list = last_death call.node list ≡ Some at
   ShowsReadCause other list = HasReadCause r s shown call other list
 
   -- a read gave the value and the edition of the history
@@ -58,12 +60,12 @@ module _ {V T M : Type 0} (told : Bool) (r : Rules V T) (s : Store V M) (shown :
   abbrev pub ShowsUpdated : T → Reply V → List (EntrySeen V T) → Type 0
   ShowsUpdated edit (Updated edition) list = IsUpdated call edit edition list
   ShowsUpdated edit (Failed error) list = ShowsCause edit error list
-  ShowsUpdated edit (Gave edition value) list = ⊥
+  ShowsUpdated edit other list = ⊥
 
   abbrev pub ShowsRead : Reply V → List (EntrySeen V T) → Type 0
   ShowsRead (Gave edition value) list = GivesNow edition value list
   ShowsRead (Failed error) list = MatchOption (as_read error) ⊥ (λ why. ShowsReadCause why list)
-  ShowsRead (Updated edition) list = ⊥
+  ShowsRead other list = ⊥
 
   -- by what the call asked for
   abbrev pub ShowsReply : Ask T → Reply V → List (EntrySeen V T) → Type 0

@@ -1,9 +1,10 @@
 -- What a step of a call asks for, and what it is.
-use Rattle.std.specs.Prelude.{◌≡◌, ◌⊎◌, Some, false, true}
+use Rattle.std.specs.Prelude.{◌≡◌, ◌⊎◌, Some, false, length, true}
 use Rattle.store_traits.specs.declared.codec.Codec as codec_trait
 use Rattle.store_traits.specs.declared.transform.Transform as transform_trait
 use Rattle.store_traits.specs.declared.ids.CallId.{CallId}
 use Rattle.folder_disk.specs.declared.folder.Folder as folder_trait
+use Rattle.shelf.specs.Deaths.{died_since}
 use Rattle.shelf.specs.ShelfSeen.{ShelfSeen}
 use Rattle.step_table.specs.declared.progress.Progress.{Progress}
 use Rattle.step_table.specs.Calls.{At, Reply, is_gone}
@@ -25,12 +26,17 @@ module _ {C F V T : Type 0} (c : codec_trait.Ghosts C V) (t : transform_trait.Gh
   abbrev pub SparesRoom : Origin → ShelfSeen C F V T → ShelfSeen C F V T → Type 0
   SparesRoom origin old new = (other : CallId) → old.owner ≡ Some other → (other ≡ origin.call → ⊥) → KeepsRoom old new
 
+  -- the same, unless the node of that call died in the turn
+  abbrev pub SparesLiving : Origin → ShelfSeen C F V T → ShelfSeen C F V T → Type 0
+  SparesLiving origin old new =
+      (other : CallId) → old.owner ≡ Some other → (other ≡ origin.call → ⊥) → KeepsRoom old new ⊎ (died_since other.node (Some (length old.list)) new.list ≡ true)
+
   -- The shelf as the call's last turn left it, and what others did since: the store is the same, the history grew by
   -- entries of others, and what a call owns that owns the lock is as it was, unless its node died. Before its earliest turn any
-  -- shelf serves in which nothing of the call stands.
+  -- shelf serves in which nothing of the call stands. A call whose node died then needs nothing more: its step ends it.
   pub record MayStep (origin : Origin) (at : At V T) (now : ShelfSeen C F V T) : Type 0 where
     pub last : ShelfSeen C F V T
-    pub ready : Ready c t f origin at last
+    pub ready : died_since origin.call.node origin.since last.list ≡ false → Ready c t f origin at last
     pub between : Between (call_seen origin at) (world_seen f last) (world_seen f now)
     pub codec : now.codec ≡ last.codec
     pub store : now.store ≡ last.store
@@ -51,5 +57,5 @@ module _ {C F V T : Type 0} (c : codec_trait.Ghosts C V) (t : transform_trait.Gh
     pub store : new.store ≡ old.store
     pub codec : new.codec ≡ old.codec
     pub waits : StaysIfBlocked gave old new
-    -- so stays what is kept for another call that owns the lock
-    pub spares : SparesRoom origin old new
+    -- so stays what is kept for another call that owns the lock, unless its node died
+    pub spares : SparesLiving origin old new

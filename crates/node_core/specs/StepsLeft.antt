@@ -1,6 +1,6 @@
 -- How many turns a call has left at most, where none of them is blocked: one for each byte of what it writes, and some beside.
 use Rattle.std.specs.Prelude.{ℕ, ◌+◌, Bool, length, if◌then◌else◌}
-use Rattle.step_table.specs.Calls.{At, First, Purpose, Initialise, Serve, ServeUnlocked, Reading, Migrating, Finishing, Raising, Writing, Stage, Creating, Appending, SyncingScratch, Renaming, SyncingFolder, Gone, Plan}
+use Rattle.step_table.specs.Calls.{At, First, Purpose, Initialise, Serve, ServeUnlocked, Reading, Migrating, Finishing, Raising, Writing, Stage, Creating, Appending, SyncingScratch, Renaming, SyncingFolder, Restarting, Gone, Plan}
 
 abbrev pub behind_reading : Purpose → ℕ
 behind_reading Initialise = 10
@@ -23,4 +23,5 @@ module _ {V T : Type 0} (limit : ℕ) (initialised : Bool) where
   steps_left (Raising plan) = length plan.text.rest + 5
   steps_left (Writing stage plan) = writing_left stage plan
   steps_left (SyncingFolder ending) = 1
+  steps_left (Restarting node) = 1
   steps_left Gone = 0

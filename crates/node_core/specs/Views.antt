@@ -85,7 +85,7 @@ module _ {V T : Type 0} where
   call_seen origin at = record { id = origin.call; at = at; since = origin.since }
 
 module _ {C F V T : Type 0} (f : folder_trait.Ghosts F) where
-  -- the world of a shelf: no death is planned yet, there are no old settings, and the version word has the number of raises
+  -- the world of a shelf: there are no old settings, and the version word has the number of raises
   abbrev pub world_seen : ShelfSeen C F V T → World V T
   world_seen s =
       record {
@@ -95,7 +95,7 @@ module _ {C F V T : Type 0} (f : folder_trait.Ghosts F) where
         sections = [];
         owner = s.owner;
         history = s.list;
-        deaths = [];
+        deaths = s.deaths;
         version = raises_of s.list;
         tally = f.tally s.folder;
       }

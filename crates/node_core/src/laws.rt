@@ -14,8 +14,8 @@ ghost use Rattle.shelf.specs.Legal.{Legal};
 ghost use Rattle.shelf.specs.Meanings.{Meanings};
 ghost use Rattle.shelf.specs.Meanwhile.{NoneOf};
 ghost use Rattle.shelf.specs.ShelfSeen.{ShelfSeen};
-ghost use Rattle.step_table.specs.Turn.{Turn};
-ghost use Rattle.step_table.specs.World.{Turned};
+ghost use Rattle.step_table.specs.Turn.{Turn, has_died_by};
+ghost use Rattle.step_table.specs.World.{Turned, begin};
 ghost use Rattle.shelf.specs.Rules.{rules_of};
 ghost use Rattle.value_cache.specs.Cached.{Cached};
 ghost use Rattle.value_cache.specs.Truth.{IsOfPrefix};
@@ -47,7 +47,7 @@ pub fn calls_stay_ready<P: Parts>()
 pub fn turns_spare_other_calls<C: Codec, T: Transform<Value = C::Value>, M>()
     ensures { (c : C) (s : Store C.Value M) (t : Turned C.Value T) (gave : Progress (Reply C.Value)) (other : Call C.Value T)
         → Turn (rules_of T.after T.weight_of (C.encoded c) (C.reads c) (C.default_of c)) s t gave
-        → Knows (rules_of T.after T.weight_of (C.encoded c) (C.reads c) (C.default_of c)) s t.world t.call
+        → (has_died_by (begin t) ≡ false → Knows (rules_of T.after T.weight_of (C.encoded c) (C.reads c) (C.default_of c)) s t.world t.call)
         → Knows (rules_of T.after T.weight_of (C.encoded c) (C.reads c) (C.default_of c)) s t.world other
         → (other.id.client.0 == t.call.id.client.0) ≡ false → Between other t.world t.world_after }
 {}

@@ -12,6 +12,7 @@ mod origin;
 mod read_call;
 mod read_errors;
 mod reading;
+mod restarting;
 mod update_call;
 mod write_call;
 
@@ -20,5 +21,6 @@ pub use laws::{
 };
 pub use read_call::ReadCall;
 pub use read_errors::as_update_error;
+pub use restarting::restart;
 pub use step_table::Progress;
 pub use update_call::UpdateCall;

@@ -4,3 +4,4 @@ pub mod OptionLemmas
 pub mod SetLemmas
 pub mod SetViews
 pub mod StandLemmas
+pub mod TestLemmas

@@ -1,5 +1,6 @@
 pub mod FusedFolder
 -- The code makes a run.
+pub mod BroughtBack
 pub mod ClientTurns
 pub mod NamesTold
 pub mod OpeningLemmas

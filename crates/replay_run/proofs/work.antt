@@ -1,3 +1,6 @@
+-- Each step that does not wait leaves less to do.
+pub mod DeathsLeft
 pub mod RunLemmas
-mod TurnsLeft
+pub mod StepsFall
+pub mod TurnsLeft
 pub mod WorkLemmas

@@ -5,9 +5,10 @@ use Rattle.store_traits.specs.declared.update_error.UpdateError.{UpdateError}
 use Rattle.store_traits.specs.declared.update_error.UpdateError.TheVariants as error
 use Rattle.prefs_text.specs.declared.seen.AnswerSeen.{AnswerSeen}
 use Rattle.prefs_text.specs.declared.seen.AnswerSeen.TheVariants as seen
-use Rattle.step_table.specs.Calls.{Read, Reply, Updated, Gave, Failed}
+use Rattle.step_table.specs.Calls.{Failed, Gave, NotDead, Reply, Restarted, Updated}
 use Rattle.step_table.specs.declared.progress.Progress.{Progress}
 use Rattle.step_table.specs.declared.progress.Progress.TheVariants.{Ended}
+use Rattle.script_lang.specs.declared.plan.run_line.Act.TheVariants as act
 use Rattle.replay_run.specs.RunState.{Client, new_call}
 use Rattle.replay_run.specs.Settings.{PrefCached, PrefCall, Value}
 
@@ -28,6 +29,8 @@ abbrev pub reply_told : Reply Value → Option AnswerSeen
 reply_told (Updated edition) = Some (seen.Updated edition)
 reply_told (Gave edition value) = Some (seen.Read edition value)
 reply_told (Failed error) = error_told error
+reply_told (Restarted place) = Some (seen.Restarted place)
+reply_told NotDead = Some seen.NotDead
 
 -- a line of the answer joins the others
 abbrev pub client_answered : Client → CallId → AnswerSeen → Client
@@ -40,5 +43,5 @@ behind_turn client call gave = Some (record client { running = Some call })
 
 -- the client behind the look of its read: what was found answers it, or it goes on to its first turn
 abbrev pub behind_look : Client → Option PrefCached → Client
-behind_look client (Some kept) = client_answered client (new_call client Read).id (seen.Read kept.edition kept.value)
-behind_look client None = record client { running = Some (new_call client Read) }
+behind_look client (Some kept) = client_answered client (new_call client act.Read).id (seen.Read kept.edition kept.value)
+behind_look client None = record client { running = Some (new_call client act.Read) }

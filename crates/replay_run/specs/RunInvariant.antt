@@ -1,15 +1,18 @@
 -- What holds between the steps of a run.
-use Rattle.std.specs.Prelude.{◌≡◌, ◌<◌, ◌+◌, ◌-◌, ◌^◌, ◌++◌, min, ℕ, Bool, true, false, List, All, Contains, Some, IfSome, slice_get, length, count_by, if◌then◌else◌, is_some}
+use Rattle.std.specs.Prelude.{◌≡◌, ◌⊎◌, ◌<◌, ◌+◌, ◌-◌, ◌^◌, ◌++◌, min, ℕ, Bool, true, false, List, All, Contains, Some, IfSome, slice_get, length, count_by, if◌then◌else◌, is_some}
 use Rattle.std.specs.List.{list_any}
 use Rattle.store_traits.specs.declared.ids.CallId.{CallId}
 use Rattle.hist_journal.specs.declared.device.Device.TheVariants.{Folder, Legacy}
-use Rattle.hist_journal.specs.declared.seen.KindSeen.TheVariants.{Cleared, Fault, Migrate, Replace, Restart}
+use Rattle.hist_journal.specs.declared.seen.KindSeen.TheVariants.{Cleared, Fault, Migrate, Replace}
 use Rattle.hist_journal.specs.Folds.{edition_of, raises_of}
+use Rattle.hist_journal.specs.Nodes.{is_dead}
 use Rattle.hist_journal.specs.Quiet.{Quiet, pending}
 use Rattle.prefs_text.specs.EntryText.{PrefEntry, PrefKind}
+use Rattle.shelf.specs.declared.store.PlannedDeath.{PlannedDeath}
 use Rattle.shelf.specs.declared.store.Store.{Store}
+use Rattle.shelf.specs.Deaths.{has_died}
 use Rattle.shelf.specs.Each.{Each}
-use Rattle.shelf.specs.Entries.{is_death}
+use Rattle.shelf.specs.Entries.{is_death, is_own}
 use Rattle.shelf.specs.Legal.{value_at}
 use Rattle.shelf.specs.Places.{is_fault_of}
 use Rattle.node_core.specs.Phases.{is_holding}
@@ -33,8 +36,8 @@ pub record IsOfCall (clients : List Client) (e : PrefEntry) : Type 0 where
   pub who : e.who ≡ call_at client place
   pub begun : place < begun client
 
--- the owner of the lock is a call that runs, and holds it
-pub record HasOwner (clients : List Client) (owner : CallId) : Type 0 where
+-- the owner of the lock is a call that runs, holds it, and has not died
+pub record HasOwner (clients : List Client) (history : List PrefEntry) (owner : CallId) : Type 0 where
   pub place : ℕ
   pub client : Client
   pub call : PrefCall
@@ -42,10 +45,10 @@ pub record HasOwner (clients : List Client) (owner : CallId) : Type 0 where
   pub runs : client.running ≡ Some call
   pub own : owner ≡ call.id
   pub holds : is_holding call.at ≡ true
+  pub lives : has_died call.id.node call.since history ≡ false
 
--- no step that is built adds these: they are of restarts, old settings and handlers
+-- no step that is built adds these: they are of old settings and handlers
 abbrev pub is_later_work : PrefKind → Bool
-is_later_work (Restart node) = true
 is_later_work (Migrate names value) = true
 is_later_work (Cleared name) = true
 is_later_work (Replace value) = true
@@ -56,13 +59,17 @@ module _ (r : PrefRules) {M : Type 0} (s : Store Value M) where
   pub record RunInvariant (state : RunState) : Type 0 where
     pub clients : (place : ℕ) (client : Client) → slice_get state.clients place ≡ Some client → ClientInvariant r s place state.shared.world client
     pub entries : All (IsOfCall state.clients) state.shared.world.history
-    pub owner : IfSome state.shared.world.owner (HasOwner state.clients)
+    pub owner : IfSome state.shared.world.owner (HasOwner state.clients state.shared.world.history)
     -- there are as many Faults as calls of the folder that failed, up to the count's end, and no more than were planned to
     pub faults : state.shared.world.tally.count ≡ min (s.folder.count + count_by (λ e. is_fault_of Folder e.kind) state.shared.world.history) (2 ^ 64 - 1)
     pub failing : FailsWithin s state.shared.world.tally
+    -- a call whose node is dead adds nothing
+    pub living : Each (λ before e. is_dead e.who.node before ≡ false) state.shared.world.history
     -- each Death was planned, with its step
     pub deaths : Each (λ before e. is_death e.kind ≡ true → IsPlanned s.deaths before e.who) state.shared.world.history
     pub left : All (Contains s.deaths) state.shared.world.deaths
+    -- a death that is planned is left, unless its call died
+    pub used : (death : PlannedDeath) → Contains s.deaths death → Contains state.shared.world.deaths death ⊎ (list_any (is_own is_death death.call) state.shared.world.history ≡ true)
     pub built : list_any (λ e. is_later_work e.kind) state.shared.world.history ≡ false
     -- no raise is open but that of the lock's owner, and the version word counts them
     pub quiet : (call : CallId) → pending state.shared.world.history ≡ Some call → state.shared.world.owner ≡ Some call

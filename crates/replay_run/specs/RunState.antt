@@ -4,10 +4,10 @@ use Rattle.store_traits.specs.declared.ids.CallId.{CallId}
 use Rattle.store_traits.specs.declared.ids.ClientId.{ClientId}
 use Rattle.store_traits.specs.declared.ids.NodeId.{NodeId}
 use Rattle.prefs_text.specs.declared.seen.AnswerLineSeen.{AnswerLineSeen}
-use Rattle.step_table.specs.Calls.{First, Read, Update}
+use Rattle.step_table.specs.Calls.{At, First, Gone, Read, Restarting, Update}
 use Rattle.script_lang.specs.declared.plan.run_line.Act.{Act}
 use Rattle.script_lang.specs.declared.plan.run_line.Act.TheVariants as act
-use Rattle.replay_run.specs.Settings.{PrefAsk, PrefCached, PrefCall, PrefWorld}
+use Rattle.replay_run.specs.Settings.{Change, PrefCached, PrefCall, PrefWorld, Value}
 
 -- how many calls it was asked for in earlier sessions, what it is asked for in this one, the call that runs, and the lines that answer those before it
 pub record Client : Type 0 where
@@ -45,15 +45,17 @@ act_now client = slice_get client.asked (length client.answered)
 abbrev pub is_busy : Client → Bool
 is_busy client = is_some (act_now client)
 
+-- the first step of what is asked for; flows and posts join with later work
+abbrev pub first_at : Act → At Value Change
+first_at (act.Update edit) = First (Update edit)
+first_at act.Read = First Read
+first_at (act.Restart node) = Restarting node
+first_at other = Gone
+
 -- the call of what it is at, before its first turn
-abbrev pub new_call : Client → PrefAsk → PrefCall
-new_call client ask = record { id = call_at client (length client.answered); at = First ask; since = None }
+abbrev pub new_call : Client → Act → PrefCall
+new_call client asked = record { id = call_at client (length client.answered); at = first_at asked; since = None }
 
 -- the call of what it is at, which begins where none runs
-abbrev pub call_now : Client → PrefAsk → PrefCall
-call_now client ask = unwrap_or client.running (new_call client ask)
-
--- the line of a call
-abbrev pub act_of : PrefAsk → Act
-act_of (Update edit) = act.Update edit
-act_of Read = act.Read
+abbrev pub call_now : Client → Act → PrefCall
+call_now client asked = unwrap_or client.running (new_call client asked)

@@ -11,6 +11,7 @@ use Rattle.step_table.specs.Calls.{Call, reply_of}
 use Rattle.step_table.specs.declared.progress.Progress.{Progress}
 use Rattle.step_table.specs.declared.progress.Progress.TheVariants.{Moved, Blocked, Ended}
 use Rattle.node_core.specs.declared.origin.Origin.{Origin}
+use Rattle.node_core.specs.Restarting.{reply_of_restart}
 use Rattle.node_core.specs.Step.{MayStep, StepsTo}
 use Rattle.node_core.specs.Steps.{reply_of_read}
 use Rattle.node_core.specs.Views.{kept_by_read, kept_in}
@@ -25,6 +26,7 @@ use Rattle.replay_run.specs.Settings.{Change, PrefCached, PrefCall, ScriptFolder
 abbrev pub reply_seen : Reply → table.Reply Value
 reply_seen (reply.Updated answer) = reply_of answer
 reply_seen (reply.Gave answer) = reply_of_read answer
+reply_seen (reply.Restarted answer) = reply_of_restart answer
 
 abbrev pub replied_so : Progress Reply → Progress (table.Reply Value)
 replied_so Moved = Moved

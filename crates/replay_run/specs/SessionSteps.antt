@@ -1,5 +1,9 @@
 -- How a session is opened, and which lines it can follow.
-use Rattle.std.specs.Prelude.{◌≡◌, ◌<◌, ℕ, []}
+use Rattle.std.specs.Prelude.{◌≡◌, ◌<◌, ℕ, true, List, []}
+use Rattle.store_traits.specs.declared.ids.NodeId.{NodeId}
+use Rattle.shelf.specs.AddsNode.{is_among}
+use Rattle.script_lang.specs.declared.plan.run_line.Act.{Act}
+use Rattle.script_lang.specs.declared.plan.run_line.Act.TheVariants as act
 use Rattle.script_lang.specs.declared.plan.run_line.RunLine.{RunLine}
 use Rattle.script_lang.specs.declared.plan.script.Script.{Script}
 use Rattle.script_lang.specs.declared.plan.session_plan.SessionPlan.{SessionPlan}
@@ -23,7 +27,13 @@ pub record IsOpened (script : Script) (plan : SessionPlan) (session : RunningSes
   pub store : IsStoreOf prefs_basis script plan (store_in session.shelf)
   pub keeps : SessionInvariant session
 
+-- a restart is of one of these nodes
+abbrev pub NamesNode : List NodeId → Act → Type 0
+NamesNode nodes (act.Restart node) = is_among node nodes ≡ true
+NamesNode nodes other = Unit {0}
+
 -- the line asks one of so many clients for something that is built
-pub record CanFollow (clients : ℕ) (line : RunLine) : Type 0 where
+pub record CanFollow (clients : ℕ) (nodes : List NodeId) (line : RunLine) : Type 0 where
   pub declared : line.client.0 < clients
-  pub act : IsBuiltAct line.act
+  pub asked : IsBuiltAct line.act
+  pub named : NamesNode nodes line.act

@@ -1,5 +1,6 @@
 -- What contracts see of a session in progress: its state.
-use Rattle.std.specs.Prelude.{map, IfSome, option_map}
+use Rattle.std.specs.Prelude.{◌≡◌, true, false, List, map, IfSome, option_map}
+use Rattle.store_traits.specs.declared.ids.NodeId.{NodeId}
 use Rattle.store_traits.specs.declared.codec.Codec as codec_trait
 use Rattle.store_traits.specs.declared.transform.Transform as transform_trait
 use Rattle.folder_disk.specs.declared.folder.Folder as folder_trait
@@ -8,6 +9,8 @@ use Rattle.prefs_text.specs.AnswerView.{line_seen}
 use Rattle.script_lang.specs.declared.plan.run_line.Act.{Act}
 use Rattle.script_lang.specs.declared.plan.run_line.Act.TheVariants as act
 use Rattle.shelf.specs.declared.shelf.Shelf.{Shelf}
+use Rattle.shelf.specs.AddsNode.{is_among}
+use Rattle.shelf.specs.Deaths.{died_since}
 use Rattle.shelf.specs.ShelfSeen.{shelf_seen}
 use Rattle.node_core.specs.Ready.{Equipped, rules_seen}
 use Rattle.node_core.specs.Views.{call_seen, read_seen, state_seen, world_seen}
@@ -30,6 +33,12 @@ running_seen (running.Read call) = call_seen call.origin (read_seen call.state)
 abbrev pub task_seen : Task → Act
 task_seen (task.Update edit) = act.Update edit.now
 task_seen task.Read = act.Read
+task_seen (task.Restart node) = act.Restart node
+
+-- what is asked for names nodes of the store alone
+abbrev pub IsNamed : List NodeId → Task → Type 0
+IsNamed nodes (task.Restart node) = is_among node nodes ≡ true
+IsNamed nodes other = Unit {0}
 
 -- it is asked for nothing in earlier sessions, as there are none yet
 abbrev pub client_seen : own.Client → Client
@@ -57,9 +66,12 @@ module _ {c : codec_trait.Ghosts PrefsCodec Value} {t : transform_trait.Ghosts C
   abbrev pub view_in : Shelf (PrefsParts ScriptFolder) PrefsCodec Change ScriptFolder Value c t f → Cache Value → NodeView
   view_in shelf cache = record { world = world_in shelf; kept = kept_seen cache }
 
-  -- there is room for what the call that runs is still to write
+  -- there is room for what the call is still to write, as long as its node has not died
+  abbrev pub IsEquipped : Shelf (PrefsParts ScriptFolder) PrefsCodec Change ScriptFolder Value c t f → Running → Type 0
+  IsEquipped shelf call = died_since (running_seen call).id.node (running_seen call).since (shelf_seen shelf).list ≡ false → Equipped c t f (running_seen call).at (shelf_seen shelf)
+
   abbrev pub EquippedIn : Shelf (PrefsParts ScriptFolder) PrefsCodec Change ScriptFolder Value c t f → own.Client → Type 0
-  EquippedIn shelf client = IfSome client.running (λ call. Equipped c t f (running_seen call).at (shelf_seen shelf))
+  EquippedIn shelf client = IfSome client.running (IsEquipped shelf)
 
 abbrev pub state_in : RunningSession → RunState
 state_in session =

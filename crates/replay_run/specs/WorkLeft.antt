@@ -4,7 +4,6 @@ use Rattle.store_traits.specs.declared.ids.CallId.{CallId}
 use Rattle.hist_journal.specs.Nodes.{is_ready}
 use Rattle.node_core.specs.Phases.{is_holding}
 use Rattle.node_core.specs.StepsLeft.{steps_left}
-use Rattle.step_table.specs.Calls.{Read, Update}
 use Rattle.script_lang.specs.declared.plan.run_line.Act.{Act}
 use Rattle.script_lang.specs.declared.plan.run_line.Act.TheVariants as act
 use Rattle.replay_run.specs.RunState.{Client, RunState, act_now, call_now, is_busy}
@@ -18,16 +17,18 @@ module _ (limit : ℕ) where
 
     -- those of the call that the client is at; the look of a read is one more
     abbrev pub call_left : Option Act → Client → ℕ
-    call_left (Some (act.Update edit)) client = turns_left client (call_now client (Update edit))
-    call_left (Some act.Read) client = turns_left client (call_now client Read) + (if is_some client.running then 0 else 1)
+    call_left (Some (act.Update edit)) client = turns_left client (call_now client (act.Update edit))
+    call_left (Some act.Read) client = turns_left client (call_now client act.Read) + (if is_some client.running then 0 else 1)
+    call_left (Some (act.Restart node)) client = 1
     call_left other client = 0
 
     -- a call behind it has as many as a read that has not looked
     abbrev pub client_left : Client → ℕ
     client_left client = call_left (act_now client) client + (length client.asked - length client.answered - 1) * (limit + 12)
 
+  -- a death makes each client of its node initialise it once more, which is four turns, and is used up
   abbrev pub work_left : RunState → ℕ
-  work_left state = sum_by (client_left state.shared.world) state.clients
+  work_left state = sum_by (client_left state.shared.world) state.clients + length state.shared.world.deaths * (4 * length state.clients)
 
 -- another owns the lock
 pub record Waits (state : RunState) (client : Client) : Type 0 where

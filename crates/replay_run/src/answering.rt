@@ -6,6 +6,7 @@ ghost use Rattle.replay_run.specs.RunningSteps.{reply_seen};
 use crate::running::Reply;
 use node_core::as_update_error;
 use prefs_text::Answer;
+use shelf::RestartError;
 use std::alloc::AllocError;
 use store_traits::UpdateError;
 
@@ -19,6 +20,10 @@ pub(crate) fn answer_of(reply: Reply) -> Result<Answer, AllocError>
         Reply::Updated(Err(error)) => answer_of_error(error),
         Reply::Gave(Ok(given)) => Ok(Answer::Read(given)),
         Reply::Gave(Err(error)) => answer_of_error(as_update_error(error)),
+        Reply::Restarted(Ok(place)) => Ok(Answer::Restarted(place)),
+        Reply::Restarted(Err(RestartError::Died { at })) => Ok(Answer::Died(at)),
+        Reply::Restarted(Err(RestartError::NotDead)) => Ok(Answer::NotDead),
+        Reply::Restarted(Err(RestartError::NoMemory)) => Err(AllocError),
     }
 }
 

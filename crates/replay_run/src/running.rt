@@ -12,7 +12,7 @@ ghost use Rattle.replay_run.specs.SessionView.{rules_in, running_seen, store_in,
 use crate::client::Settings;
 use node_core::{Progress, ReadCall, UpdateCall};
 use prefs_model::PrefMap;
-use shelf::Shelf;
+use shelf::{RestartError, Shelf};
 use std::alloc::Global;
 use store_traits::{Given, PlainWord, ReadError, UpdateError};
 use value_cache::CachedValue;
@@ -29,6 +29,7 @@ pub(crate) enum Running {
 pub(crate) enum Reply {
     Updated(Result<u64, UpdateError>),
     Gave(Result<Given<PrefMap>, ReadError>),
+    Restarted(Result<u64, RestartError>),
 }
 
 impl Running {

@@ -9,10 +9,10 @@ use Rattle.std.proofs.lemmas.List.Sums.{fold-append}
 use Rattle.folder_disk.specs.declared.main_read.MainRead.{MainRead}
 use Rattle.script_lang.specs.declared.parsing.draft.Draft.{Draft}
 use Rattle.script_lang.specs.declared.parsing.line.Line.{Line}
-use Rattle.script_lang.specs.declared.parsing.line.Line.TheVariants.{Nothing, File, History, Node, Client, Fault, Fuse, Run}
+use Rattle.script_lang.specs.declared.parsing.line.Line.TheVariants.{Nothing, File, History, Node, Client, Fault, Fuse, Die, Run}
 use Rattle.script_lang.specs.declared.plan.mode.Mode.{Mode}
 use Rattle.script_lang.specs.declared.parsing.script_error.ScriptFault.TheVariants.{TooManyNames, WrongPlace}
-use Rattle.script_lang.specs.Draft.{closes, draft_of, node_of, client_of, home_of, file_of, entries_of, fault_of, fuse_of, is_node, is_plan, run_of, shorter}
+use Rattle.script_lang.specs.Draft.{HasHomes, closes, draft_of, node_of, client_of, home_of, file_of, entries_of, fault_of, fuse_of, death_of, is_node, is_plan, run_of, shorter}
 use Rattle.script_lang.specs.Faults.{RowBreaks}
 use Rattle.script_lang.specs.Growth.{HasPlace, draft_with}
 use Rattle.script_lang.specs.Meaning.{Says}
@@ -67,6 +67,7 @@ node_found false (History entries ∷ lines) = node_found false lines
 node_found false (Client name home ∷ lines) = node_found false lines
 node_found false (Fault planned ∷ lines) = node_found false lines
 node_found false (Fuse left ∷ lines) = node_found false lines
+node_found false (Die death ∷ lines) = node_found false lines
 node_found false (Run line ∷ lines) = node_found false lines
 
 closed_alone : (noded plan : Bool) → ((noded && plan) || false) ≡ closed_by plan false noded
@@ -98,6 +99,7 @@ draft_more_of mode before said = record {
   entries = slice_get (pushed (entries_of said) (filter_map entries_of before)) 0;
   faults = pushed (fault_of said) (filter_map fault_of before);
   fuse = burnt (fuse_of said) (fold shorter None (filter_map fuse_of before));
+  deaths = pushed (death_of said) (filter_map death_of before);
   lines = pushed (run_of said) (filter_map run_of before);
   is_closed = closed_by (is_plan said) (closes false before) (nat_lt 0 (length (filter_map node_of before)));
 }
@@ -108,7 +110,7 @@ draft_more mode before said =
     ap (fold shorter None) (found_more fuse_of before said) ∙ fuse_more (fuse_of said) (filter_map fuse_of before) in
     let closed : closes false (before ++ said ∷ []) ≡ closed_by (is_plan said) (closes false before) (nat_lt 0 (length (filter_map node_of before))) =
     closes_more false before said ∙ ap (closed_by (is_plan said) (closes false before)) (node_found false before) in
-    rw (found_more node_of before said, found_more client_of before said, found_more home_of before said, found_more file_of before said, found_more entries_of before said, found_more fault_of before said, fuse, found_more run_of before said, closed) refl
+    rw (found_more node_of before said, found_more client_of before said, found_more home_of before said, found_more file_of before said, found_more entries_of before said, found_more fault_of before said, fuse, found_more death_of before said, found_more run_of before said, closed) refl
 
 -- where nothing was found, the first is the one that comes
 first_is : {X : Type 0} (xs : List X) (x : X) → slice_get xs 0 ≡ None → slice_get (xs ++ x ∷ []) 0 ≡ Some x
@@ -123,6 +125,7 @@ draft_grows mode before (Node name) place = draft_more mode before (Node name)
 draft_grows mode before (Client name home) place = draft_more mode before (Client name home)
 draft_grows mode before (Fault planned) place = draft_more mode before (Fault planned)
 draft_grows mode before (Fuse left) place = draft_more mode before (Fuse left)
+draft_grows mode before (Die death) place = draft_more mode before (Die death)
 draft_grows mode before (Run line) place = draft_more mode before (Run line)
 
 none_there : {X : Type 0} (o : Option X) → ¬ IsSome o → o ≡ None
@@ -153,4 +156,21 @@ says_has_place draft number line (Client name home) says =
     less_than (length draft.clients) 64 (λ many. says.keeps_rules TooManyNames (record { read = spelled.read; row = spelled.row; of_line = spelled.of_line; breaks = subst P (sym spelled.spells.is) many }))
 says_has_place draft number line (Fault planned) says = tt
 says_has_place draft number line (Fuse left) says = tt
+says_has_place draft number line (Die death) says = tt
 says_has_place draft number line (Run run) says = tt
+
+-- each line that declares a client names its node
+homes_found : (lines : List Line) → length (filter_map home_of lines) ≡ length (filter_map client_of lines)
+homes_found [] = refl
+homes_found (Client name home ∷ lines) = ap (λ n. suc n) (homes_found lines)
+homes_found (Nothing ∷ lines) = homes_found lines
+homes_found (File main ∷ lines) = homes_found lines
+homes_found (History entries ∷ lines) = homes_found lines
+homes_found (Node name ∷ lines) = homes_found lines
+homes_found (Fault planned ∷ lines) = homes_found lines
+homes_found (Fuse left ∷ lines) = homes_found lines
+homes_found (Die death ∷ lines) = homes_found lines
+homes_found (Run line ∷ lines) = homes_found lines
+
+pub draft_has_homes : (mode : Mode) (lines : List Line) → HasHomes (draft_of mode lines)
+draft_has_homes mode lines = homes_found lines

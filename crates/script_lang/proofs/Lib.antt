@@ -3,6 +3,7 @@ pub mod CallLemmas
 pub mod CallTests
 pub mod CausesTest
 pub mod ChronicleTest
+pub mod DeathRows
 pub mod Decided
 pub mod EditTests
 pub mod ExampleReads
@@ -16,15 +17,19 @@ pub mod GoodChapters
 pub mod GoodTest
 pub mod GrowthLemmas
 pub mod JobsTest
+pub mod KeepsActs
 pub mod KeepsLemmas
+pub mod KeepsNames
 pub mod LeastFault
 pub mod LineLemmas
 pub mod ListLemmas
 pub mod NameLemmas
 pub mod NameRows
+pub mod OneCall
 pub mod OneFile
 pub mod OneMeaning
 pub mod OneRow
+pub mod OneStep
 pub mod PlansTest
 pub mod ReadLines
 pub mod ReadSoFar

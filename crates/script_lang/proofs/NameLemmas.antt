@@ -1,11 +1,12 @@
 -- What a look-up answers in a list with one name more.
-use Rattle.std.proofs.Common.{◌≡◌, ◌≢◌, ℕ, zero, suc, Bool, true, false, cond, List, [], ◌∷◌, ◌++◌, Option, Some, None, length, ⊎_elim, ap, sym, refl, ◌∙◌}
+use Rattle.std.proofs.Common.{◌≡◌, ◌≢◌, ℕ, zero, suc, Bool, true, false, cond, List, [], ◌∷◌, ◌++◌, Option, Some, None, length, ⊎_elim, ap, sym, refl, ◌∙◌, ◌<◌, get_or, arith}
 use Rattle.std.specs.Prelude.{slice_get, Contains, is_some}
 use Rattle.std.specs.Str.{bytes_eq}
 use Rattle.std.proofs.lemmas.List.Elements.{Contains-push_cases}
 use Rattle.std.proofs.lemmas.Slice.Eq.{bytes_eq-Decides}
 use Rattle.std.proofs.lemmas.Bool.{false≢true}
 use Rattle.std.proofs.lemmas.Option.{slice_get_within, get_or_from_slice_get, slice_get-get_or}
+use Rattle.store_traits.specs.declared.ids.NodeId.{NodeId}
 use Rattle.folder_disk.proofs.MainsLemmas.{get_last}
 use Rattle.script_lang.specs.Finding.{Finds}
 
@@ -37,3 +38,14 @@ slice_get-from_Contains xs x (place, within, is) = (place, slice_get-get_or xs p
 pub found_exactly : (names : List (List ℕ)) (name : List ℕ) (found : Option ℕ) → Finds names name found → (is_some found ≡ true → Contains names name) × (Contains names name → is_some found ≡ true)
 found_exactly names name None finds = (λ h. absurd (false≢true h), λ has. absurd (finds has))
 found_exactly names name (Some place) finds = (λ _. Contains-from_slice_get names name place finds, λ _. refl)
+
+-- where as many others stand as names, one stands at the place of each name
+pub beside_name : {X : Type 0} (names : List (List ℕ)) (others : List X) (name : List ℕ) (place : ℕ) → length others ≡ length names → slice_get names place ≡ Some name → (other : X) × (slice_get others place ≡ Some other)
+beside_name names [] name place beside at = let within : place < length names = slice_get_within names place name at in absurd (omega arith)
+beside_name names (x ∷ xs) name place beside at =
+    let within : place < length names = slice_get_within names place name at in
+    (get_or (x ∷ xs) place x, slice_get-get_or (x ∷ xs) place x (omega arith))
+
+-- the same place is the same node
+pub same_node : (a b : NodeId) → a.0 ≡ b.0 → a ≡ b
+same_node a b e = ap (λ (n : ℕ). record { 0 = n }) e

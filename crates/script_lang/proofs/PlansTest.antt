@@ -31,7 +31,7 @@ module _ (c : Chapter) where
         (λ it. record { item = it.death; among = it.is; holds = (it.own, it.step) })
         (found IsIts (λ death. both (one_call death.call call) (same_bool (is_writing death.step) (ends_in_raise call false before))) c.plan.deaths)
 
-  abbrev pub spares : (call : CallId) (answer : AnswerSeen) → Decided (Spares c call answer)
+  abbrev pub spares : (call : CallId) (answer : AnswerSeen) → Decided (Spares c.plan.deaths c.told.entries call answer)
   spares call (Updated edition) =
       like
       (λ it. record { passed = it.0; written = it.1 })
@@ -46,7 +46,7 @@ module _ (c : Chapter) where
       (λ it. (it.deaths, it.spared))
       (both
       (each (λ before e. is_death e.kind ≡ true → IsPlanned c.plan.deaths before e.who) (λ before e. if_so (yes (is_death e.kind)) (planned before e.who)) c.told.entries)
-      (each (λ before line. Spares c line.call line.answer) (λ before line. spares line.call line.answer) c.told.answers))
+      (each (λ before line. Spares c.plan.deaths c.told.entries line.call line.answer) (λ before line. spares line.call line.answer) c.told.answers))
 
   abbrev pub fails_as_planned : Decided (FailsAsPlanned c)
   fails_as_planned =

@@ -66,14 +66,14 @@ module _ (c : Chapter) where
     by_restart other = none (λ it. it)
 
     pub restarted_so : (a : Act) → Contains c.asked (record { call = call; act = a }) → OfRestart a → IsRestarted c call place
-    restarted_so (act.Restart node) among it = record { node = node; asked = among; restart = it.stands; none_before = it.around.0; none_behind = it.around.1 }
+    restarted_so (act.Restart node) among it = record { node = node; asked = among; only = record { restart = it.stands; none_before = it.around.0; none_behind = it.around.1 } }
     restarted_so other among it = absurd it
 
     abbrev pub restarted : Decided (IsRestarted c call place)
     restarted =
         like
         (λ it. restarted_so it.act it.asked it.fits)
-        (λ it. record { act = act.Restart it.node; asked = it.asked; fits = record { stands = it.restart; around = (it.none_before, it.none_behind) } })
+        (λ it. record { act = act.Restart it.node; asked = it.asked; fits = record { stands = it.only.restart; around = (it.only.none_before, it.only.none_behind) } })
         (asked c call OfRestart by_restart)
 
   abbrev pub done : (line : AnswerLineSeen) (answer : AnswerSeen) → Decided (IsDone c line answer)

@@ -3,6 +3,7 @@ use Rattle.std.specs.Prelude.{◌≡◌, ℕ, true, List, [], ◌∷◌, ◌++�
 use Rattle.std.specs.List.{enumerate_from}
 use Rattle.store_traits.specs.declared.ids.NodeId.{NodeId}
 use Rattle.folder_disk.specs.Due.{Due, in_order}
+use Rattle.folder_disk.specs.FuseFolder.{with_fuse}
 use Rattle.folder_disk.specs.MainRead.{main_of}
 use Rattle.folder_disk.specs.Planned.{no_calls}
 use Rattle.folder_disk.specs.Stops.{image}
@@ -50,13 +51,9 @@ first_beginning script = record { main = main_of script.start.file; folder = 0; 
 abbrev pub nodes_of : Script → List NodeId
 nodes_of script = map (λ placed. record { 0 = placed.0 }) (enumerate_from 0 script.names.nodes)
 
-abbrev pub fuses_of : Option ℕ → List ℕ
-fuses_of None = []
-fuses_of (Some left) = left ∷ []
-
 -- what the plan has fail: calls of the folder by their number, and each behind a fuse
 abbrev pub due_of : SessionPlan → Due
-due_of plan = record { planned = in_order plan.folder_faults; made = no_calls; fuses = fuses_of plan.fuse }
+due_of plan = record { planned = in_order plan.folder_faults; made = no_calls; fuses = with_fuse plan.fuse [] }
 
 -- where so many calls had failed before
 abbrev pub tally_of : ℕ → SessionPlan → Tally

@@ -1,12 +1,13 @@
 -- The script that lines make.
-use Rattle.std.specs.Prelude.{ℕ, min, Bool, true, false, ◌&&◌, ◌||◌, List, [], ◌∷◌, Option, Some, None, slice_get, fold}
+use Rattle.std.specs.Prelude.{ℕ, ◌≡◌, min, Bool, true, false, ◌&&◌, ◌||◌, List, [], ◌∷◌, length, Option, Some, None, slice_get, fold}
 use Rattle.std.specs.List.{filter_map}
 use Rattle.folder_disk.specs.declared.call.Planned.{Planned}
 use Rattle.folder_disk.specs.declared.main_read.MainRead.{MainRead}
 use Rattle.store_traits.specs.declared.ids.NodeId.{NodeId}
+use Rattle.shelf.specs.declared.store.PlannedDeath.{PlannedDeath}
 use Rattle.script_lang.specs.declared.parsing.draft.Draft.{Draft}
 use Rattle.script_lang.specs.declared.parsing.line.Line.{Line}
-use Rattle.script_lang.specs.declared.parsing.line.Line.TheVariants.{File, History, Node, Client, Fault, Fuse, Run}
+use Rattle.script_lang.specs.declared.parsing.line.Line.TheVariants.{File, History, Node, Client, Fault, Fuse, Die, Run}
 use Rattle.script_lang.specs.declared.plan.mode.Mode.{Mode}
 use Rattle.script_lang.specs.declared.plan.run_line.RunLine.{RunLine}
 
@@ -42,6 +43,10 @@ abbrev pub fuse_of : Line → Option ℕ
 fuse_of (Fuse left) = Some left
 fuse_of _ = None
 
+abbrev pub death_of : Line → Option PlannedDeath
+death_of (Die death) = Some death
+death_of _ = None
+
 -- of several fuses the one that is used up first
 abbrev pub shorter : Option ℕ → ℕ → Option ℕ
 shorter None left = Some left
@@ -55,6 +60,7 @@ is_node _ = false
 abbrev pub is_plan : Line → Bool
 is_plan (Fault planned) = true
 is_plan (Fuse left) = true
+is_plan (Die death) = true
 is_plan (Run line) = true
 is_plan _ = false
 
@@ -74,6 +80,11 @@ draft_of mode lines = record {
   entries = slice_get (filter_map entries_of lines) 0;
   faults = filter_map fault_of lines;
   fuse = fold shorter None (filter_map fuse_of lines);
+  deaths = filter_map death_of lines;
   lines = filter_map run_of lines;
   is_closed = closes false lines;
 }
+
+-- each client has a node
+abbrev pub HasHomes : Draft → Type 0
+HasHomes draft = length draft.homes ≡ length draft.clients

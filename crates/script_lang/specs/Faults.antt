@@ -4,19 +4,22 @@ use Rattle.std.specs.Option.{IsSomeAnd}
 use Rattle.std.specs.Str.{IsUtf8}
 use Rattle.folder_disk.specs.declared.call.Planned.{Planned}
 use Rattle.folder_disk.specs.declared.main_read.MainRead.{MainRead}
+use Rattle.store_traits.specs.declared.step.Step.{Step}
 use Rattle.script_words.specs.Names.{IsName, reserved}
 use Rattle.script_lang.specs.declared.parsing.draft.Draft.{Draft}
-use Rattle.script_lang.specs.declared.parsing.line_word.LineWord.TheVariants.{File, History, Node, Client, Fault, Fuse, Go}
+use Rattle.script_lang.specs.declared.parsing.line_word.LineWord.TheVariants.{File, History, Node, Client, Fault, Fuse, Die, Go}
 use Rattle.script_lang.specs.declared.plan.mode.Mode.TheVariants.{Nodes}
 use Rattle.script_lang.specs.declared.parsing.script_error.ScriptFault.{ScriptFault}
 use Rattle.script_lang.specs.declared.parsing.script_error.ScriptFault.TheVariants as fault
-use Rattle.script_lang.specs.CallWords.{AreNoCall, HasUnknownCall}
+use Rattle.script_lang.specs.CallWords.{AreNoCall, HasUnknownCall, RestartsUnknown}
+use Rattle.script_lang.specs.DeathSteps.{IsStepWord}
 use Rattle.script_lang.specs.LineWord.{IsUnbuilt}
-use Rattle.script_lang.specs.Rows.{Row, keyword, call, HasRow, IsSkipped, IsFileRow, IsHistoryRow, IsNodeRow, IsClientRow, IsFolderCall, IsFaultRow, IsFuseRow, IsGoRow}
+use Rattle.script_lang.specs.Rows.{Row, keyword, call, HasRow, IsSkipped, IsFileRow, IsHistoryRow, IsNodeRow, IsClientRow, IsFolderCall, IsFaultRow, IsFuseRow, IsDieRow, IsGoRow}
 
 abbrev pub HasUnknownWord : Row → Type 0
 HasUnknownWord (keyword Fault []) = ⊥
 HasUnknownWord (keyword Fault (word ∷ behind)) = ¬ IsFolderCall word
+HasUnknownWord (keyword Die behind) = IsSomeAnd (slice_get behind 2) (λ word. ¬ IsStepWord word)
 HasUnknownWord (keyword word behind) = IsUnbuilt word
 HasUnknownWord (call first behind) = (¬ IsName first) ⊎ HasUnknownCall behind
 
@@ -28,6 +31,7 @@ HasBadValue (keyword Node behind) = (name : List ℕ) → ¬ IsNodeRow behind na
 HasBadValue (keyword Client behind) = (name home : List ℕ) → ¬ IsClientRow behind name home
 HasBadValue (keyword Fault behind) = (planned : Planned) → ¬ IsFaultRow behind planned
 HasBadValue (keyword Fuse behind) = (left : ℕ) → ¬ IsFuseRow behind left
+HasBadValue (keyword Die behind) = (client : List ℕ) (number : ℕ) (step : Step) → ¬ IsDieRow behind client number step
 HasBadValue (keyword Go behind) = (client : List ℕ) (steps : ℕ) → ¬ IsGoRow behind client steps
 HasBadValue (keyword _ behind) = ⊥
 HasBadValue (call first behind) = AreNoCall behind
@@ -35,9 +39,10 @@ HasBadValue (call first behind) = AreNoCall behind
 -- the word in the place of a node or a client, whatever its form, is the name of none
 abbrev pub HasUnknownName : Draft → Row → Type 0
 HasUnknownName draft (keyword Client behind) = IsSomeAnd (slice_get behind 2) (λ home. ¬ Contains draft.nodes home)
+HasUnknownName draft (keyword Die behind) = IsSomeAnd (slice_get behind 0) (λ client. ¬ Contains draft.clients client)
 HasUnknownName draft (keyword Go behind) = IsSomeAnd (slice_get behind 0) (λ client. ¬ Contains draft.clients client)
 HasUnknownName draft (keyword _ behind) = ⊥
-HasUnknownName draft (call first behind) = ¬ Contains draft.clients first
+HasUnknownName draft (call first behind) = (¬ Contains draft.clients first) ⊎ RestartsUnknown draft.nodes behind
 
 abbrev pub IsTaken : Draft → List ℕ → Type 0
 IsTaken draft name = Contains reserved name ⊎ (Contains draft.nodes name ⊎ Contains draft.clients name)
@@ -72,7 +77,7 @@ abbrev pub BarsHistory : Draft → Type 0
 BarsHistory draft = FollowsNode draft ⊎ IsSome draft.entries
 
 -- `file` and `history` stand before the first node, each once at most, and `node` and `client` before the first line
--- of another sort that follows them. By `nodes` no call of the folder is planned to fail
+-- of another sort that follows them. By `nodes` no call of the folder is planned to fail, and no node to die
 abbrev pub StandsWrong : Draft → Row → Type 0
 StandsWrong draft (keyword File behind) = BarsFile draft
 StandsWrong draft (keyword History behind) = BarsHistory draft
@@ -80,6 +85,7 @@ StandsWrong draft (keyword Node behind) = FollowsOther draft
 StandsWrong draft (keyword Client behind) = FollowsOther draft
 StandsWrong draft (keyword Fault behind) = draft.mode ≡ Nodes
 StandsWrong draft (keyword Fuse behind) = draft.mode ≡ Nodes
+StandsWrong draft (keyword Die behind) = draft.mode ≡ Nodes
 StandsWrong draft _ = ⊥
 
 -- the faults that a line's words can have

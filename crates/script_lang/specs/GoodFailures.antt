@@ -49,13 +49,13 @@ abbrev pub plans : (Step → Bool) → CallId → List PlannedDeath → Bool
 plans at call deaths = list_any (λ death. is_call call death.call && at death.step) deaths
 
 -- no death was planned for a step that the update went through
-pub record IsSpared (c : Chapter) (call : CallId) : Type 0 where
-  pub passed : plans is_passed call c.plan.deaths ≡ false
-  pub written : list_any (is_own is_edit call) c.told.entries ≡ true → plans is_passed_writing call c.plan.deaths ≡ false
+pub record IsSpared (planned : List PlannedDeath) (list : List PrefEntry) (call : CallId) : Type 0 where
+  pub passed : plans is_passed call planned ≡ false
+  pub written : list_any (is_own is_edit call) list ≡ true → plans is_passed_writing call planned ≡ false
 
-abbrev pub Spares : Chapter → CallId → AnswerSeen → Type 0
-Spares c call (Updated edition) = IsSpared c call
-Spares c call other = Unit {0}
+abbrev pub Spares : List PlannedDeath → List PrefEntry → CallId → AnswerSeen → Type 0
+Spares planned list call (Updated edition) = IsSpared planned list call
+Spares planned list call other = Unit {0}
 
 abbrev pub faults_of : Chapter → ℕ
 faults_of c = count_by (λ e. is_fault_of Folder e.kind) c.told.entries
@@ -68,4 +68,4 @@ pub record FailsAsPlanned (c : Chapter) : Type 0 where
 -- a lawful call dies once, so no planned death is two
 pub record DiesAsPlanned (c : Chapter) : Type 0 where
   pub deaths : Each (λ before e. is_death e.kind ≡ true → IsPlanned c.plan.deaths before e.who) c.told.entries
-  pub spared : Each (λ before line. Spares c line.call line.answer) c.told.answers
+  pub spared : Each (λ before line. Spares c.plan.deaths c.told.entries line.call line.answer) c.told.answers

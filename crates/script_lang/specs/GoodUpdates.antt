@@ -39,13 +39,17 @@ is_restart_of node other = false
 abbrev pub has_restart : CallId → List PrefEntry → Bool
 has_restart call list = list_any (is_own is_restart call) list
 
--- the entry is the call's only Restart, and names the node of its line
+-- the entry at this place is the call's only Restart, and names the node
+pub record IsOnlyRestart (call : CallId) (node : NodeId) (place : ℕ) (list : List PrefEntry) : Type 0 where
+  pub restart : StandsAt (is_own (is_restart_of node) call) place list
+  pub none_before : has_restart call restart.before ≡ false
+  pub none_behind : has_restart call restart.behind ≡ false
+
+-- the node is that of its line
 pub record IsRestarted (c : Chapter) (call : CallId) (place : ℕ) : Type 0 where
   pub node : NodeId
   pub asked : Contains c.asked (record { call = call; act = act.Restart node })
-  pub restart : StandsAt (is_own (is_restart_of node) call) place c.told.entries
-  pub none_before : has_restart call restart.before ≡ false
-  pub none_behind : has_restart call restart.behind ≡ false
+  pub only : IsOnlyRestart call node place c.told.entries
 
 -- an update is acknowledged and a restart is done where it is answered so, and no other call has a Restart
 abbrev pub IsDone : Chapter → AnswerLineSeen → AnswerSeen → Type 0

@@ -2,7 +2,7 @@
 use Rattle.std.specs.Prelude.{◌≡◌, ◌<◌, [], ◌∷◌, ◌++◌, ◌||◌, length, Some, None}
 use Rattle.script_lang.specs.declared.parsing.draft.Draft.{Draft}
 use Rattle.script_lang.specs.declared.parsing.line.Line.{Line}
-use Rattle.script_lang.specs.declared.parsing.line.Line.TheVariants.{Nothing, File, History, Node, Client, Fault, Fuse, Run}
+use Rattle.script_lang.specs.declared.parsing.line.Line.TheVariants.{Nothing, File, History, Node, Client, Fault, Fuse, Die, Run}
 use Rattle.script_lang.specs.Draft.{shorter}
 use Rattle.script_lang.specs.Faults.{follows_node}
 
@@ -14,6 +14,7 @@ draft_with draft (Node name) = record draft { nodes = draft.nodes ++ name ∷ []
 draft_with draft (Client name home) = record draft { clients = draft.clients ++ name ∷ []; homes = draft.homes ++ home ∷ [] }
 draft_with draft (Fault planned) = record draft { faults = draft.faults ++ planned ∷ []; is_closed = draft.is_closed || follows_node draft }
 draft_with draft (Fuse left) = record draft { fuse = shorter draft.fuse left; is_closed = draft.is_closed || follows_node draft }
+draft_with draft (Die death) = record draft { deaths = draft.deaths ++ death ∷ []; is_closed = draft.is_closed || follows_node draft }
 draft_with draft (Run line) = record draft { lines = draft.lines ++ line ∷ []; is_closed = draft.is_closed || follows_node draft }
 
 -- nothing is said twice, and there are not too many names

@@ -1,5 +1,5 @@
 -- What is asked of each script: of its names, its ids, its numbers and its limits; and which scripts are built so far.
-use Rattle.std.specs.Prelude.{ℕ, ◌≡◌, ◌<◌, ◌≤◌, false, List, [], ◌∷◌, length, sum_by, All, Contains, Some, IfSome, slice_get}
+use Rattle.std.specs.Prelude.{ℕ, ◌≡◌, ◌<◌, ◌≤◌, true, false, None, List, [], ◌∷◌, length, sum_by, All, Contains, Some, IfSome, slice_get}
 use Rattle.store_traits.specs.declared.ids.NodeId.{NodeId}
 use Rattle.folder_disk.specs.declared.call.Planned.{Planned}
 use Rattle.prefs_edit.specs.Edit.{IsEdit}
@@ -11,7 +11,8 @@ use Rattle.script_lang.specs.declared.plan.run_line.Act.TheVariants.{Update, Rea
 use Rattle.script_lang.specs.declared.plan.run_line.RunLine.{RunLine}
 use Rattle.script_lang.specs.declared.plan.script.Script.{Script}
 use Rattle.script_lang.specs.declared.plan.session_plan.SessionPlan.{SessionPlan}
-use Rattle.script_lang.specs.SessionPlans.{IsWhole, StopBetween, lines_in}
+use Rattle.script_lang.specs.DeathSteps.{can_die_at}
+use Rattle.script_lang.specs.SessionPlans.{StopBetween, lines_in}
 
 -- the word can name a node or a client
 pub record CanName (word : List ℕ) : Type 0 where
@@ -53,10 +54,12 @@ pub record KeepsEntries (entries : ℕ) : Type 0 where
   pub some : 1 ≤ entries
   pub few : entries ≤ 100000
 
--- the death is of a call of a client, on its node
+-- the death is of a call of a client, on its node, before a step that is a turn; the calls are counted from 1, and their numbers end at 4,294,967,295
 pub record KeepsDeath (homes : List NodeId) (death : PlannedDeath) : Type 0 where
   pub home : slice_get homes death.call.client.0 ≡ Some death.call.node
   pub first : 1 ≤ death.call.number
+  pub few : death.call.number ≤ 4294967295
+  pub step : can_die_at death.step ≡ true
 
 -- the calls of a kind are counted from 1, and the numbers of planned failures end at 4,294,967,295
 pub record KeepsFault (planned : Planned) : Type 0 where
@@ -78,14 +81,15 @@ pub record KeepsSessions (script : Script) : Type 0 where
 abbrev pub IsBuiltAct : Act → Type 0
 IsBuiltAct (Update edit) = Unit {0}
 IsBuiltAct Read = Unit {0}
+IsBuiltAct (Restart node) = Unit {0}
 IsBuiltAct (Go steps) = Unit {0}
 IsBuiltAct other = ⊥
 
--- what lines say so far: one session, in which calls of the folder may fail
+-- what lines say so far: one session, in which calls of the folder may fail and nodes die
 pub record IsBuilt (script : Script) : Type 0 where
   pub plan : SessionPlan
   pub only : script.sessions ≡ plan ∷ []
-  pub whole : IsWhole plan
+  pub unstopped : plan.stop ≡ None
   pub acts : All (λ line. IsBuiltAct line.act) plan.lines
   pub unreplaced : script.start.replace ≡ false
 

@@ -2,6 +2,7 @@ pub mod AnswerForms
 pub mod Asked
 pub mod CallWords
 pub mod Chronicle
+pub mod DeathSteps
 pub mod Draft
 pub mod FaultOfWords
 pub mod Faults

@@ -25,5 +25,6 @@ IsUnbuilt Node = ⊥
 IsUnbuilt Client = ⊥
 IsUnbuilt Fault = ⊥
 IsUnbuilt Fuse = ⊥
+IsUnbuilt Die = ⊥
 IsUnbuilt Go = ⊥
 IsUnbuilt _ = Unit {0}

@@ -24,13 +24,13 @@ AllSay mode before [] [] = Unit {0}
 AllSay mode before (line ∷ lines) (said ∷ more) = Says (draft_of mode before) (length before + 1) line said × AllSay mode (before ++ said ∷ []) lines more
 AllSay mode before _ _ = ⊥
 
--- there is one session, in which no node dies and which no stop ends
+-- there is one session, which no stop ends
 abbrev pub script_of : Draft → Script
 script_of draft = record {
   names = record { nodes = draft.nodes; clients = draft.clients };
   homes = draft.homes;
   start = record { file = unwrap_or draft.file Absent; entries = unwrap_or draft.entries 100000; replace = false };
-  sessions = record { folder_faults = draft.faults; fuse = draft.fuse; deaths = []; lines = draft.lines; stop = None } ∷ [];
+  sessions = record { folder_faults = draft.faults; fuse = draft.fuse; deaths = draft.deaths; lines = draft.lines; stop = None } ∷ [];
 }
 
 -- the bytes are this script

@@ -1,15 +1,17 @@
 -- A line by its first word, and what may stand behind it.
-use Rattle.std.specs.Prelude.{ℕ, ◌≡◌, ◌≢◌, ◌<◌, ◌⊎◌, List, [], ◌∷◌, length, codes}
+use Rattle.std.specs.Prelude.{ℕ, ◌≡◌, ◌≢◌, ◌<◌, ◌⊎◌, true, List, [], ◌∷◌, length, codes}
 use Rattle.hex.specs.Hex.{encode_lower, IsBytes}
 use Rattle.folder_disk.specs.declared.call.FolderCall.{FolderCall}
 use Rattle.folder_disk.specs.declared.call.FolderCall.TheVariants.{ReadMain, Create, Append, SyncScratch, Rename, SyncFolder}
 use Rattle.folder_disk.specs.declared.call.Planned.{Planned}
 use Rattle.folder_disk.specs.declared.main_read.MainRead.{MainRead}
 use Rattle.folder_disk.specs.declared.main_read.MainRead.TheVariants.{Absent, Bytes}
+use Rattle.store_traits.specs.declared.step.Step.{Step}
 use Rattle.script_words.specs.Names.{IsName}
 use Rattle.script_words.specs.Numbers.{IsNumberWithin}
 use Rattle.script_words.specs.Words.{AreWords}
 use Rattle.script_lang.specs.declared.parsing.line_word.LineWord.{LineWord}
+use Rattle.script_lang.specs.DeathSteps.{can_die_at, step_text}
 use Rattle.script_lang.specs.LineWord.{line_word}
 
 -- a line word, or another word in the place of a client, with the words behind it
@@ -87,6 +89,13 @@ pub record IsFuseRow (behind : List (List ℕ)) (left : ℕ) : Type 0 where
   pub word : List ℕ
   pub row : behind ≡ word ∷ []
   pub is_number : IsNumberWithin word 0 4294967295 left
+
+-- `die CLIENT N STEP`
+pub record IsDieRow (behind : List (List ℕ)) (client : List ℕ) (number : ℕ) (step : Step) : Type 0 where
+  pub word : List ℕ
+  pub row : behind ≡ client ∷ word ∷ step_text step ∷ []
+  pub is_number : IsNumberWithin word 1 4294967295 number
+  pub can_die : can_die_at step ≡ true
 
 -- `go CLIENT N`
 pub record IsGoRow (behind : List (List ℕ)) (client : List ℕ) (steps : ℕ) : Type 0 where

@@ -7,11 +7,6 @@ use Rattle.script_lang.specs.declared.plan.session_plan.SessionPlan.{SessionPlan
 abbrev pub plain : List RunLine → SessionPlan
 plain lines = record { folder_faults = []; fuse = None; deaths = []; lines = lines; stop = None }
 
--- no node dies in the session, and no stop ends it
-pub record IsWhole (plan : SessionPlan) : Type 0 where
-  pub deaths : plan.deaths ≡ []
-  pub stop : plan.stop ≡ None
-
 -- how many lines of a script say what happens in the session, at the least
 abbrev pub lines_in : SessionPlan → ℕ
 lines_in plan = length plan.folder_faults + length plan.deaths + length plan.lines

@@ -4,14 +4,15 @@ use Rattle.folder_disk.specs.declared.call.Planned.{Planned}
 use Rattle.folder_disk.specs.declared.main_read.MainRead.{MainRead}
 use Rattle.store_traits.specs.declared.ids.ClientId.{ClientId}
 use Rattle.store_traits.specs.declared.ids.NodeId.{NodeId}
+use Rattle.shelf.specs.declared.store.PlannedDeath.{PlannedDeath}
 use Rattle.script_lang.specs.declared.parsing.draft.Draft.{Draft}
 use Rattle.script_lang.specs.declared.parsing.line.Line.{Line}
-use Rattle.script_lang.specs.declared.parsing.line.Line.TheVariants.{Nothing, File, History, Node, Client, Fault, Fuse, Run}
+use Rattle.script_lang.specs.declared.parsing.line.Line.TheVariants.{Nothing, File, History, Node, Client, Fault, Fuse, Die, Run}
 use Rattle.script_lang.specs.declared.parsing.line_word.LineWord.TheVariants as word
 use Rattle.script_lang.specs.declared.plan.run_line.Act.{Act}
 use Rattle.script_lang.specs.declared.plan.run_line.Act.TheVariants.{Go}
-use Rattle.script_lang.specs.CallWords.{AreCallWords}
-use Rattle.script_lang.specs.Rows.{Row, keyword, call, HasRow, IsSkipped, IsFileRow, IsHistoryRow, IsNodeRow, IsClientRow, IsFaultRow, IsFuseRow, IsGoRow}
+use Rattle.script_lang.specs.CallWords.{CallsFor}
+use Rattle.script_lang.specs.Rows.{Row, keyword, call, HasRow, IsSkipped, IsFileRow, IsHistoryRow, IsNodeRow, IsClientRow, IsFaultRow, IsFuseRow, IsDieRow, IsGoRow}
 
 pub record SpellsFile (row : Row) (main : MainRead) : Type 0 where
   pub behind : List (List ℕ)
@@ -46,6 +47,15 @@ pub record SpellsFuse (row : Row) (left : ℕ) : Type 0 where
   pub is : row ≡ keyword word.Fuse behind
   pub follow : IsFuseRow behind left
 
+-- the call is one of the client, on its node
+pub record SpellsDeath (draft : Draft) (row : Row) (death : PlannedDeath) : Type 0 where
+  pub behind : List (List ℕ)
+  pub name : List ℕ
+  pub is : row ≡ keyword word.Die behind
+  pub follow : IsDieRow behind name death.call.number death.step
+  pub declared : slice_get draft.clients death.call.client.0 ≡ Some name
+  pub home : slice_get draft.homes death.call.client.0 ≡ Some death.call.node
+
 pub record SpellsGo (draft : Draft) (row : Row) (client : ClientId) (steps : ℕ) : Type 0 where
   pub behind : List (List ℕ)
   pub name : List ℕ
@@ -57,7 +67,7 @@ pub record SpellsCall (draft : Draft) (row : Row) (client : ClientId) (act : Act
   pub name : List ℕ
   pub behind : List (List ℕ)
   pub is : row ≡ call name behind
-  pub follow : AreCallWords behind act
+  pub follow : CallsFor draft.nodes behind act
   pub declared : slice_get draft.clients client.0 ≡ Some name
 
 abbrev pub SpellsAct : Draft → Row → ClientId → Act → Type 0
@@ -72,6 +82,7 @@ Spells draft row (Node name) = SpellsNode row name
 Spells draft row (Client name home) = SpellsClient draft row name home
 Spells draft row (Fault planned) = SpellsFault row planned
 Spells draft row (Fuse left) = SpellsFuse row left
+Spells draft row (Die death) = SpellsDeath draft row death
 Spells draft row (Run line) = SpellsAct draft row line.client line.act
 
 -- some row that the line has spells this

@@ -12,7 +12,7 @@ use Rattle.script_lang.specs.declared.plan.run_line.Act.TheVariants.{Read, Resta
 use Rattle.script_lang.specs.declared.plan.script.Script.{Script}
 use Rattle.script_lang.specs.SessionPlans.{plain}
 use Rattle.script_lang.specs.TranscriptView.{SessionSeen}
-use Rattle.script_lang.specs.TruthExamples.{a, actor, add, answered, asks, b, death_told, did, encoded, entry, greatest_told, holds, restart_told, script, set, sync_failed_told, two_nodes_told, two_posts_told, update}
+use Rattle.script_lang.specs.TruthExamples.{a, actor, add, answered, asks, b, death_told, did, encoded, entry, greatest_told, holds, restart_plan, restart_told, script, set, sync_failed_told, two_nodes_told, two_posts_told, update}
 
 -- the second of two updates is answered so, and its node did no more than begin
 abbrev pub second_answered : AnswerSeen → SessionSeen
@@ -116,6 +116,18 @@ read_died = read_answered (Died 4)
 -- the node died at another place
 abbrev pub died_elsewhere : SessionSeen
 died_elsewhere = record restart_told { answers = answered (a 1) (Died 1) ∷ answered (a 2) (Updated 1) ∷ answered (b 1) (answer.Restarted 3) ∷ [] }
+
+-- an update behind the restart is said to have died before it
+abbrev pub former_life : SessionSeen
+former_life = record restart_told { answers = answered (a 1) (Died 2) ∷ answered (a 2) (Died 2) ∷ answered (b 1) (answer.Restarted 3) ∷ [] }
+
+-- a client reads behind that update
+abbrev pub late_read : Script
+late_read = script main.Absent (record restart_plan { lines = restart_plan.lines ++ record { client = (a 3).client; act = Read } ∷ [] })
+
+-- the read is said to have died before the update
+abbrev pub died_before_update : SessionSeen
+died_before_update = record restart_told { answers = answered (a 1) (Died 2) ∷ answered (a 2) (Updated 1) ∷ answered (a 3) (Died 2) ∷ answered (b 1) (answer.Restarted 3) ∷ [] }
 
 -- no 16 jobs can have waited
 abbrev pub full : SessionSeen

@@ -1,14 +1,16 @@
 -- Transcripts that do not tell the truth: of each, one thing is wrong, and one of the nine rules is broken.
 use Rattle.std.specs.Prelude.{[], ◌∷◌, ◌++◌, codes, None, Some}
-use Rattle.store_traits.specs.declared.step.Step.TheVariants.{U8}
+use Rattle.store_traits.specs.declared.step.Step.TheVariants.{U1, U3, U4, U8}
 use Rattle.folder_disk.specs.declared.call.FolderCall.TheVariants.{SyncFolder}
 use Rattle.hist_journal.specs.declared.device.Device.TheVariants.{Folder}
 use Rattle.hist_journal.specs.declared.seen.BaseSeen.TheVariants.{Held}
+use Rattle.hist_journal.specs.declared.seen.KindSeen.TheVariants as kind
 use Rattle.hist_journal.specs.declared.seen.KindSeen.TheVariants.{Raise, Edit, Synced, Fault, Inited, Death}
 use Rattle.folder_disk.specs.declared.main_read.MainRead.TheVariants as main
 use Rattle.prefs_text.specs.declared.seen.AnswerSeen.TheVariants as answer
-use Rattle.prefs_text.specs.declared.seen.AnswerSeen.TheVariants.{Updated, Unchanged, Died, Posted, Restarted, Cut}
+use Rattle.prefs_text.specs.declared.seen.AnswerSeen.TheVariants.{Updated, Unchanged, Died, Posted, NotDead, Restarted, Cut}
 use Rattle.script_lang.specs.declared.transcripts.file_seen.FileSeen.TheVariants.{Absent, Bytes, TooLong}
+use Rattle.script_lang.specs.declared.plan.run_line.Act.TheVariants.{Restart}
 use Rattle.script_lang.specs.declared.plan.script.Script.{Script}
 use Rattle.script_lang.specs.declared.transcripts.transcript.Transcript.{Transcript}
 use Rattle.script_lang.specs.Rules.{Breaks, Rule}
@@ -119,6 +121,26 @@ edits_exchanged =
 abbrev pub restarted_elsewhere : SessionSeen
 restarted_elsewhere = record restart_told { answers = answered (a 1) (Died 2) ∷ answered (a 2) (Updated 1) ∷ answered (b 1) (Restarted 4) ∷ [] }
 
+-- a Restart stands, and its call is said to have found the node alive
+abbrev pub restart_denied : SessionSeen
+restart_denied = record restart_told { answers = answered (a 1) (Died 2) ∷ answered (a 2) (Updated 1) ∷ answered (b 1) NotDead ∷ [] }
+
+-- the second node dies, and a client is to bring back the first
+abbrev pub restart_of_the_first : Script
+restart_of_the_first =
+    script main.Absent
+    (record (plain (asks (b 1) (set (codes "k") 1) ∷ record { client = (a 1).client; act = Restart (a 1).node } ∷ [])) { deaths = record { call = b 1; step = U1 } ∷ [] })
+
+-- it brings back the second
+abbrev pub restarted_another : SessionSeen
+restarted_another =
+    record {
+      base = Held [];
+      answers = answered (a 1) (Restarted 3) ∷ answered (b 1) (Died 2) ∷ [];
+      entries = entry (b 1) (Inited (b 1).node) ∷ entry (b 1) (Death (b 1).node) ∷ entry (a 1) (kind.Restart (b 1).node) ∷ [];
+      file = Absent;
+    }
+
 -- G4: what is read is the value of its edition
 
 -- a map is read that no edition has
@@ -220,6 +242,26 @@ death_unplanned =
 -- a death was planned for a call, and the call went well
 abbrev pub death_left_out : Script
 death_left_out = script main.Absent (record two_nodes_plan { deaths = record { call = a 1; step = U8 } ∷ [] })
+
+-- the same at its first step
+abbrev pub first_death_left_out : Script
+first_death_left_out = script main.Absent (record two_nodes_plan { deaths = record { call = a 1; step = U1 } ∷ [] })
+
+-- a death was planned for a step behind the raise, and the call that died had not raised
+abbrev pub death_planned_writing : Script
+death_planned_writing = script main.Absent (record two_nodes_plan { deaths = record { call = a 1; step = U4 } ∷ [] })
+
+-- a death was planned for the step of the raise, and the call that died had raised
+abbrev pub death_planned_raising : Script
+death_planned_raising = script main.Absent (record two_nodes_plan { deaths = record { call = a 1; step = U3 } ∷ [] })
+
+abbrev pub death_behind_raise : SessionSeen
+death_behind_raise =
+    record two_nodes_told {
+      answers = answered (a 1) (Died 3) ∷ answered (b 1) (Updated 1) ∷ [];
+      entries = entry (a 1) (Inited (a 1).node) ∷ entry (a 1) Raise ∷ entry (a 1) (Death (a 1).node) ∷ update (b 1) (add (codes "x"));
+      file = Bytes (encoded (holds (codes "x") 1));
+    }
 
 -- no line lets the folder fail
 abbrev pub fault_unplanned : Script

@@ -1,6 +1,7 @@
 //! Which bytes are a script, and how they are read: line by line, each by its first word, into the draft of a script.
 
 mod call_words;
+mod death_rows;
 mod draft;
 mod fault_rows;
 mod line;

@@ -1,5 +1,5 @@
 -- What a test says of its parts, and of the elements of a list.
-use Rattle.std.proofs.Common.{◌≡◌, ◌∙◌, ◌&&◌, Bool, true, false, ℕ, nat_lt, List, [], ◌∷◌, ◌++◌, refl, sym, arith}
+use Rattle.std.proofs.Common.{◌≡◌, ◌∙◌, ◌&&◌, ◌==◌, Bool, true, false, ℕ, nat_lt, List, [], ◌∷◌, ◌++◌, refl, sym, arith}
 use Rattle.std.specs.List.{list_any}
 use Rattle.std.proofs.lemmas.Bool.Decides.{nat_tests}
 use Rattle.std.proofs.lemmas.List.Folds.{list_any-append}
@@ -11,6 +11,9 @@ never is = absurd (cc)
 pub own_first : (own kind : Bool) → (own && true) ≡ false → (own && kind) ≡ false
 own_first true kind none = never (sym none)
 own_first false kind none = refl
+
+pub symmetric : (a b : ℕ) → (a == b) ≡ (b == a)
+symmetric a b = grind (arith, nat_tests)
 
 -- no call is later than itself
 pub not_later : (same : Bool) (number : ℕ) → (same && nat_lt number number) ≡ false

@@ -1,5 +1,5 @@
 -- What a shelf keeps, from one turn to the next.
-use Rattle.std.proofs.Common.{◌≡◌, ◌∙◌, ◌+◌, ◌-◌, ◌^◌, ◌<◌, ◌≤◌, inl, inr, ⊎_elim, ℕ, min, Bool, true, false, nat_le, IsTrue, List, [], ◌∷◌, ◌++◌, Option, Some, None, length, cond, refl, sym, ap, subst, arith, if◌then◌else◌}
+use Rattle.std.proofs.Common.{◌≡◌, ◌∙◌, ◌+◌, ◌-◌, ◌^◌, ◌<◌, ◌≤◌, inl, inr, ⊎_elim, ℕ, min, Bool, true, false, nat_le, IsTrue, List, [], ◌∷◌, ◌++◌, Option, Some, None, Result, Ok, Err, length, cond, refl, sym, ap, subst, arith, if◌then◌else◌}
 use Rattle.std.proofs.Math.Logic.{∥∥₁_map}
 use Rattle.std.specs.List.{list_any, list_all}
 use Rattle.std.proofs.lemmas.Bool.Decides.{nat_tests}
@@ -7,17 +7,22 @@ use Rattle.std.proofs.lemmas.List.Folds.{list_any-append}
 use Rattle.std.proofs.lemmas.Bool.{and_parts}
 use Rattle.store_traits.specs.Faults.{Rose}
 use Rattle.store_traits.specs.declared.ids.CallId.{CallId}
+use Rattle.store_traits.specs.declared.ids.NodeId.{NodeId}
 use Rattle.folder_disk.specs.declared.call.FolderCall.{FolderCall}
 use Rattle.folder_disk.specs.Contents.{Contents, Scratch, ChangesScratch, LoosensScratch, folder_synced, renamed}
 use Rattle.folder_disk.specs.Tally.{Tally, Tallies}
 use Rattle.hist_journal.specs.declared.device.Device.TheVariants.{Folder}
 use Rattle.hist_journal.specs.declared.seen.EntrySeen.{EntrySeen}
 use Rattle.hist_journal.specs.declared.seen.KindSeen.{KindSeen}
-use Rattle.hist_journal.specs.declared.seen.KindSeen.TheVariants.{Fault}
+use Rattle.hist_journal.specs.declared.seen.KindSeen.TheVariants.{Fault, Restart}
 use Rattle.hist_journal.specs.Folds.{kind_weight, weight_of}
 use Rattle.hist_journal.specs.Kinds.{is_change, is_fault}
+use Rattle.hist_journal.specs.Nodes.{is_dead}
 use Rattle.hist_journal.proofs.FoldLemmas.{weight_of-push, main_of-other, main_of-change, value_of-other, edition_of-other}
+use Rattle.shelf.specs.declared.answers.RestartError.{RestartError}
+use Rattle.shelf.specs.declared.answers.RestartError.TheVariants.{Died, NotDead, NoMemory}
 use Rattle.shelf.specs.declared.ledger.Ledger.{Ledger}
+use Rattle.shelf.specs.declared.store.PlannedDeath.{PlannedDeath}
 use Rattle.shelf.specs.declared.store.Store.{Store}
 use Rattle.shelf.specs.Entries.{with_entries}
 use Rattle.shelf.specs.FaultCounts.{RaisesCount, has_reached, count_after, told_count}
@@ -25,6 +30,7 @@ use Rattle.shelf.specs.Kept.{Kept, KeptMain}
 use Rattle.shelf.specs.Ledger.{Enters, LedgerSeen, ledger_seen}
 use Rattle.shelf.specs.Legal.{Fits}
 use Rattle.shelf.specs.Plans.{WritesChange}
+use Rattle.shelf.specs.Reviving.{ReviveRow}
 use Rattle.shelf.specs.ShelfTurns.{FitInTurn, FaultFits}
 use Rattle.shelf.specs.StoreSeen.{store_with}
 use Rattle.shelf.specs.Rules.{Rules, weight_at}
@@ -86,9 +92,9 @@ heavier_twice own weight added one more is same = omega arith
 no_heavier : (own weight added : ℕ) → weight ≡ min own (2 ^ 64 - 1) → min added (2 ^ 64 - 1) ≡ min 0 (2 ^ 64 - 1) → min (weight + added) (2 ^ 64 - 1) ≡ weight
 no_heavier own weight added is same = omega arith
 
-module _ {V T : Type 0} (told : Bool) (c c' : Contents) (t t' : Tally) (limit first_faults : ℕ) (l l' : Ledger V T) where
+module _ {V T : Type 0} (told : Bool) (c c' : Contents) (t t' : Tally) (limit first_faults : ℕ) (planned : List PlannedDeath) (l l' : Ledger V T) where
   pub same_store : {failed : Bool} → SameStart told failed c c' t t' → l'.journal.base ≡ l.journal.base → l'.journal.bounds ≡ l.journal.bounds → (ledger_seen l').nodes ≡ (ledger_seen l).nodes
-      → store_with told c' t' limit first_faults l'.journal l'.nodes ≡ store_with told c t limit first_faults l.journal l.nodes
+      → store_with told c' t' limit first_faults planned l'.journal l'.nodes ≡ store_with told c t limit first_faults planned l.journal l.nodes
   same_store start base bounds nodes =
       let first = same_if told c'.first c.first None start.first in
       let alone = same_if told c'.alone c.alone false start.alone in
@@ -261,12 +267,12 @@ roomier_stays told c c' t t' same tally =
 pub untouched : (told : Bool) (c : Contents) (t : Tally) → MainStays told false c c t t
 untouched told c t = record { start = record { first = λ so. refl; alone = λ so. refl; most = refl; later = omega arith; counted = λ so well. refl }; main = λ so. refl }
 
-module _ {V T : Type 0} (r : Rules V T) (I : V → Type 0) (told : Bool) (c c' : Contents) (t t' : Tally) (limit first_faults : ℕ) (l l' : Ledger V T) where
+module _ {V T : Type 0} (r : Rules V T) (I : V → Type 0) (told : Bool) (c c' : Contents) (t t' : Tally) (limit first_faults : ℕ) (planned : List PlannedDeath) (l l' : Ledger V T) where
   abbrev store_before : Store V (Unit {0})
-  store_before = store_with told c t limit first_faults l.journal l.nodes
+  store_before = store_with told c t limit first_faults planned l.journal l.nodes
 
   abbrev store_after : Store V (Unit {0})
-  store_after = store_with told c' t' limit first_faults l'.journal l'.nodes
+  store_after = store_with told c' t' limit first_faults planned l'.journal l'.nodes
 
   abbrev KeptBefore : Type 0
   KeptBefore = ∥ Kept r I store_before told c t.count l.journal.weight l.journal.list ∥₁
@@ -286,7 +292,7 @@ module _ {V T : Type 0} (r : Rules V T) (I : V → Type 0) (told : Bool) (c c' :
         ∥∥₁_map kept
         (λ k.
         moved
-        (same_store told c c' t t' limit first_faults l l' stays.start enters.base enters.bounds enters.nodes)
+        (same_store told c c' t t' limit first_faults planned l l' stays.start enters.base enters.bounds enters.nodes)
         _
         _
         enters.list
@@ -299,7 +305,7 @@ module _ {V T : Type 0} (r : Rules V T) (I : V → Type 0) (told : Bool) (c c' :
         ∥∥₁_map kept
         (λ k.
         moved
-        (same_store told c c' t t' limit first_faults l l' stays.start enters.base enters.bounds enters.nodes)
+        (same_store told c c' t t' limit first_faults planned l l' stays.start enters.base enters.bounds enters.nodes)
         _
         _
         (enters.list ∙ ap (λ (n : ℕ). l.journal.list ++ record { who = call; kind = Fault Folder n } ∷ []) is)
@@ -315,12 +321,22 @@ module _ {V T : Type 0} (r : Rules V T) (I : V → Type 0) (told : Bool) (c c' :
         (λ k.
         let later : Kept r I store_before told c t'.count l.journal.weight l.journal.list = still r I store_before told c c t.count t'.count l.journal.weight l.journal.list (λ so. refl) start.later (λ so. start.counted so refl) k in
         moved
-        (same_store told c c' t t' limit first_faults l l' start enters.base enters.bounds enters.nodes)
+        (same_store told c c' t t' limit first_faults planned l l' start enters.base enters.bounds enters.nodes)
         _
         _
         enters.list
         enters.weight
         (push_change r I store_before told c c' t'.count l.journal.weight added l.journal.list (record { who = call; kind = kind }) plan change (λ so. (fits so).0) writes now (omega (arith, weighs)) later))
+
+  -- a node that was brought back, or was not
+  module _ (call : CallId) (node : NodeId) (owner : Option CallId) (room : ℕ) where
+    pub kept_revived : (result : Result ℕ RestartError) → ReviveRow call node owner room result (ledger_seen l) (ledger_seen l') → MainStays told false c c' t t'
+        → (IsTrue told → is_dead node l.journal.list ≡ true → FitInTurn r.meanings store_before call (Restart node ∷ []) l.journal.list) → KeptBefore → KeptAfter
+    unfolding kind_weight
+    kept_revived (Ok place) row stays fits kept = kept_kinds call (Restart node ∷ []) 0 owner room row.0 stays refl (λ told. fits told row.1) refl kept
+    kept_revived (Err (Died place)) row stays fits kept = absurd row
+    kept_revived (Err NotDead) row stays fits kept = kept_kinds call [] 0 owner room row.0 stays refl (λ told. tt) refl kept
+    kept_revived (Err NoMemory) row stays fits kept = kept_kinds call [] 0 owner room row.0 stays refl (λ told. tt) refl kept
 
   -- a turn that adds nothing
   pub kept_still : MainStays told false c c' t t' → ledger_seen l' ≡ ledger_seen l → KeptBefore → KeptAfter
@@ -328,7 +344,7 @@ module _ {V T : Type 0} (r : Rules V T) (I : V → Type 0) (told : Bool) (c c' :
       ∥∥₁_map kept
       (λ k.
       moved
-      (same_store told c c' t t' limit first_faults l l' stays.start (ap (λ (x : LedgerSeen V T). x.base) same) (ap (λ (x : LedgerSeen V T). x.bounds) same) (ap (λ (x : LedgerSeen V T). x.nodes) same))
+      (same_store told c c' t t' limit first_faults planned l l' stays.start (ap (λ (x : LedgerSeen V T). x.base) same) (ap (λ (x : LedgerSeen V T). x.bounds) same) (ap (λ (x : LedgerSeen V T). x.nodes) same))
       _
       _
       (ap (λ (x : LedgerSeen V T). x.list) same)

@@ -4,6 +4,8 @@ pub mod Bools
 pub mod CauseLemmas
 pub mod CauseTests
 pub mod DeathLemmas
+pub mod DeathPlanLemmas
+pub mod DyingLemmas
 pub mod EachLemmas
 pub mod EndingLemmas
 pub mod ExampleTests

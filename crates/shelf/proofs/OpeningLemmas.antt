@@ -9,6 +9,7 @@ use Rattle.hist_journal.specs.declared.seen.KindSeen.{KindSeen}
 use Rattle.hist_journal.specs.declared.seen.KindSeen.TheVariants.{Fault}
 use Rattle.hist_journal.specs.Folds.{edition_of, main_of, weight_of}
 use Rattle.shelf.specs.declared.ledger.Ledger.{Ledger}
+use Rattle.shelf.specs.declared.store.PlannedDeath.{PlannedDeath}
 use Rattle.shelf.specs.declared.store.Store.{Store}
 use Rattle.store_traits.specs.declared.ids.NodeId.{NodeId}
 use Rattle.shelf.specs.Base.{ReadsAs}
@@ -24,13 +25,13 @@ told_is : {X : Type 0} (told : Bool) (x hidden : X) → IsTrue told → (if told
 told_is true x hidden is = refl
 told_is false x hidden is = absurd cc
 
-module _ {V T : Type 0} (r : Rules V T) (I : V → Type 0) (told : Bool) (c c' : Contents) (t t' : Tally) (limit first_faults : ℕ) (l : Ledger V T) where
+module _ {V T : Type 0} (r : Rules V T) (I : V → Type 0) (told : Bool) (c c' : Contents) (t t' : Tally) (limit first_faults : ℕ) (planned : List PlannedDeath) (l : Ledger V T) where
   -- nothing has happened yet
   pub kept_new : l.journal.list ≡ [] → l.journal.weight ≡ 0 → (IsTrue told → Starts c c') → t'.count ≡ first_faults → (IsTrue told → ReadsAs r.reads r.absent limit c.main l.journal.base)
-      → ∥ Kept r I (store_with told c' t' limit first_faults l.journal l.nodes) told c' t'.count l.journal.weight l.journal.list ∥₁
+      → ∥ Kept r I (store_with told c' t' limit first_faults planned l.journal l.nodes) told c' t'.count l.journal.weight l.journal.list ∥₁
   unfolding main_of edition_of weight_of count_after
   kept_new none weightless starts counted reads =
-      let s = store_with told c' t' limit first_faults l.journal l.nodes in
+      let s = store_with told c' t' limit first_faults planned l.journal l.nodes in
       let empty : Kept r I s told c' t'.count 0 [] =
       record {
         main =
@@ -81,10 +82,10 @@ module _ {V T M : Type 0} (r : Rules V T) (I : V → Type 0) (s : Store V M) (no
         counts = k.counts;
       }
 
-module _ {V T : Type 0} (r : Rules V T) (I : V → Type 0) (told : Bool) (c : Contents) (t : Tally) (limit first_faults : ℕ) (l l' : Ledger V T) where
+module _ {V T : Type 0} (r : Rules V T) (I : V → Type 0) (told : Bool) (c : Contents) (t : Tally) (limit first_faults : ℕ) (planned : List PlannedDeath) (l l' : Ledger V T) where
   pub kept_more_nodes : l'.journal.base ≡ l.journal.base → l'.journal.bounds ≡ l.journal.bounds → l'.journal.list ≡ l.journal.list → l'.journal.weight ≡ l.journal.weight
-      → ∥ Kept r I (store_with told c t limit first_faults l.journal l.nodes) told c t.count l.journal.weight l.journal.list ∥₁
-      → ∥ Kept r I (store_with told c t limit first_faults l'.journal l'.nodes) told c t.count l'.journal.weight l'.journal.list ∥₁
+      → ∥ Kept r I (store_with told c t limit first_faults planned l.journal l.nodes) told c t.count l.journal.weight l.journal.list ∥₁
+      → ∥ Kept r I (store_with told c t limit first_faults planned l'.journal l'.nodes) told c t.count l'.journal.weight l'.journal.list ∥₁
   kept_more_nodes base bounds list weight kept =
       ∥∥₁_map kept
-      (λ k. rw (base, bounds, list, weight) (kept_with_nodes r I (store_with told c t limit first_faults l.journal l.nodes) (ids l'.nodes) told c t.count l.journal.weight l.journal.list k))
+      (λ k. rw (base, bounds, list, weight) (kept_with_nodes r I (store_with told c t limit first_faults planned l.journal l.nodes) (ids l'.nodes) told c t.count l.journal.weight l.journal.list k))

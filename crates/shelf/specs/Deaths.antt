@@ -1,5 +1,5 @@
 -- When the node of a call has died, and when it is to die.
-use Rattle.std.specs.Prelude.{ℕ, ◌+◌, ◌==◌, Bool, false, ◌&&◌, ◌||◌, List, [], ◌∷◌, drop, Option, Some, None, option_map, if◌then◌else◌}
+use Rattle.std.specs.Prelude.{ℕ, ◌+◌, ◌==◌, Bool, false, ◌&&◌, ◌||◌, not, List, [], ◌∷◌, drop, filter, Option, Some, None, option_map, if◌then◌else◌}
 use Rattle.std.specs.List.{list_any}
 use Rattle.std.specs.Option.{option_or}
 use Rattle.store_traits.specs.declared.ids.CallId.{CallId}
@@ -48,11 +48,16 @@ step_number P1 = 18
 step_number P2 = 19
 step_number R1 = 20
 
+-- a first turn of a call whose node is not initialised begins to initialise it
+abbrev pub turn_step : (ready : Bool) → Step → Step
+turn_step false U1 = I1
+turn_step false V2 = I1
+turn_step ready step = step
+
 -- the death is planned for this call before this step
 abbrev pub strikes : CallId → Step → PlannedDeath → Bool
 strikes call step death = is_call call death.call && (step_number step == step_number death.step)
 
--- the deaths that are left once the first of these is used up
-unfoldable pub used_up : CallId → Step → List PlannedDeath → List PlannedDeath
-used_up call step [] = []
-used_up call step (death ∷ deaths) = if strikes call step death then deaths else death ∷ used_up call step deaths
+-- the deaths that are left once this one is used up
+abbrev pub used_up : CallId → Step → List PlannedDeath → List PlannedDeath
+used_up call step deaths = filter (λ death. not (strikes call step death)) deaths

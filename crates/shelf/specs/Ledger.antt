@@ -1,5 +1,5 @@
 -- What contracts see of a ledger, and what its calls leave of it.
-use Rattle.std.specs.Prelude.{◌≡◌, ◌+◌, ◌-◌, ◌^◌, ℕ, min, Bool, true, false, List, Option, Some, None, if◌then◌else◌}
+use Rattle.std.specs.Prelude.{◌≡◌, ◌==◌, ◌+◌, ◌-◌, ◌^◌, ℕ, min, Bool, true, false, List, Option, Some, None, if◌then◌else◌}
 use Rattle.store_traits.specs.declared.ids.CallId.{CallId}
 use Rattle.store_traits.specs.declared.ids.NodeId.{NodeId}
 use Rattle.hist_journal.specs.declared.bounds.Bounds.{Bounds}
@@ -31,6 +31,11 @@ freed call (Some owner) = if is_call call owner then None else Some owner
 abbrev pub freed_room : CallId → Option CallId → ℕ → ℕ
 freed_room call None room = room
 freed_room call (Some owner) room = if is_call call owner then 0 else room
+
+-- the room of the owner once the calls of this node own nothing
+abbrev pub freed_node_room : NodeId → Option CallId → ℕ → ℕ
+freed_node_room node None room = room
+freed_node_room node (Some owner) room = if owner.node.0 == node.0 then 0 else room
 
 module _ {V T : Type 0} where
   abbrev pub ledger_seen : Ledger V T → LedgerSeen V T

@@ -4,8 +4,10 @@ pub mod Base
 pub mod CallOrder
 pub mod Causes
 pub mod Changes
+pub mod DeathPlan
 pub mod Deaths
 pub mod Decided
+pub mod Dying
 pub mod Each
 pub mod Endings
 pub mod Entries
@@ -29,6 +31,8 @@ pub mod PastBounds
 pub mod Places
 pub mod Plans
 pub mod Readiness
+pub mod Restarting
+pub mod Reviving
 pub mod Rules
 pub mod ShelfSeen
 pub mod ShelfTurns

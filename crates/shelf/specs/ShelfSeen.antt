@@ -6,14 +6,16 @@ use Rattle.store_traits.specs.declared.transform.Transform as transform_trait
 use Rattle.folder_disk.specs.declared.folder.Folder as folder_trait
 use Rattle.hist_journal.specs.declared.seen.EntrySeen.{EntrySeen}
 use Rattle.shelf.specs.declared.shelf.Shelf.{Shelf}
+use Rattle.shelf.specs.declared.store.PlannedDeath.{PlannedDeath}
 use Rattle.shelf.specs.declared.store.Store.{Store}
 use Rattle.shelf.specs.StoreSeen.{store_with}
 
--- `room` is how many entries the owner of the lock may still add without memory
+-- `deaths` are those that are not used up, and `room` is how many entries the owner of the lock may still add without memory
 pub record ShelfSeen (C F V T : Type 0) : Type 0 where
   pub codec : C
   pub folder : F
   pub store : Store V (Unit {0})
+  pub deaths : List PlannedDeath
   pub list : List (EntrySeen V T)
   pub owner : Option CallId
   pub room : ℕ
@@ -24,7 +26,8 @@ module _ {P C T F V : Type 0} {c : codec_trait.Ghosts C V} {t : transform_trait.
       record {
         codec = s.codec;
         folder = s.folder;
-        store = store_with f.told (f.contents s.folder) (f.tally s.folder) s.limit s.first_faults s.ledger.journal s.ledger.nodes;
+        store = store_with f.told (f.contents s.folder) (f.tally s.folder) s.limit s.first_faults s.deaths.planned s.ledger.journal s.ledger.nodes;
+        deaths = s.deaths.left;
         list = s.ledger.journal.list;
         owner = s.ledger.lock;
         room = s.ledger.reserved;

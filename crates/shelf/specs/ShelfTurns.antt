@@ -46,6 +46,7 @@ module _ {C F V T : Type 0} where
     pub list : new.list ≡ with_entries call kinds old.list
     pub owner : new.owner ≡ owner_after
     pub room : new.room ≡ room_after
+    pub deaths : new.deaths ≡ old.deaths
     pub codec : new.codec ≡ old.codec
     pub store : new.store ≡ old.store
 

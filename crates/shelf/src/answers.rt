@@ -60,6 +60,18 @@ pub enum AddNodeError {
     NoMemory,
 }
 
+/// Why a node is not brought back.
+#[derive(Clone, Copy, Debug, PartialEq, Eq, Error)]
+pub enum RestartError {
+    /// The node of the call that was to do it died: the place of its Death.
+    #[error("the node of the call died at entry {at}")]
+    Died { at: u64 },
+    #[error("the node is not dead")]
+    NotDead,
+    #[error("out of memory")]
+    NoMemory,
+}
+
 impl From<AllocError> for AddNodeError {
     ghost use Rattle.std.specs.Prelude.{◌≡◌};
     ghost use Rattle.shelf.specs.declared.answers.AddNodeError.TheVariants.{NoMemory};
@@ -68,5 +80,16 @@ impl From<AllocError> for AddNodeError {
 
     fn from(_: AllocError) -> AddNodeError {
         AddNodeError::NoMemory
+    }
+}
+
+impl From<AllocError> for RestartError {
+    ghost use Rattle.std.specs.Prelude.{◌≡◌};
+    ghost use Rattle.shelf.specs.declared.answers.RestartError.TheVariants.{NoMemory};
+
+    ghost from_gives = { λ _ e. e ≡ NoMemory };
+
+    fn from(_: AllocError) -> RestartError {
+        RestartError::NoMemory
     }
 }

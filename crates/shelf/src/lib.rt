@@ -6,6 +6,7 @@
 
 mod answer_laws;
 mod answers;
+mod death_plan;
 mod examples;
 mod laws;
 mod ledger;
@@ -18,7 +19,8 @@ mod shelf_parts;
 mod store;
 
 pub use answer_laws::{causes_by_the_start, causes_have_a_test, causes_stay, updates_stay};
-pub use answers::{AddNodeError, Loaded, PlanMade, Taken, Want};
+pub use answers::{AddNodeError, Loaded, PlanMade, RestartError, Taken, Want};
+pub use death_plan::DeathPlan;
 pub use examples::{
     ExampleEdit, histories_are_lawful, histories_are_unlawful, histories_come_to,
     stores_have_their_base,

@@ -1,4 +1,4 @@
-use crate::Parts;
+use crate::{DeathPlan, Parts};
 use hist_journal::Bounds;
 
 /// What a shelf is made with, beside its folder and what main reads as.
@@ -9,4 +9,6 @@ pub struct Setup<P: Parts> {
     pub limit: u64,
     /// When the history is full.
     pub bounds: Bounds,
+    /// Which calls kill their node, and before which step.
+    pub deaths: DeathPlan,
 }

@@ -4,7 +4,7 @@ ghost use Rattle.shelf.specs.StoreSeen.{store_with};
 ghost use Rattle.shelf.specs.Rules.{rules_of};
 
 use crate::ledger::Ledger;
-use crate::{Parts, ValueOf};
+use crate::{DeathPlan, Parts, ValueOf};
 use folder_disk::Folder;
 use store_traits::{Codec, Transform};
 
@@ -12,6 +12,7 @@ mod finishing;
 mod locking;
 mod opening;
 mod reading;
+mod restarting;
 mod weighing;
 mod writing;
 
@@ -27,12 +28,13 @@ pub struct Shelf<P: Parts> {
     limit: u64,
     /// The folder's count of faults when the session began.
     first_faults: u64,
+    deaths: DeathPlan,
     ledger: Ledger<ValueOf<P>, P::T>,
     pub ghost low_limit: { limit < 2 ^ 63 },
     pub ghost kept: { ∥ Kept
         (rules_of P.T.after P.T.weight_of (P.C.encoded codec) (P.C.reads codec) (P.C.default_of codec))
         (P.C.is_value codec)
-        (store_with P.F.told (P.F.contents folder) (P.F.tally folder) limit first_faults ledger.journal ledger.nodes)
+        (store_with P.F.told (P.F.contents folder) (P.F.tally folder) limit first_faults deaths.planned ledger.journal ledger.nodes)
         P.F.told
         (P.F.contents folder)
         (P.F.tally folder).count

@@ -32,7 +32,7 @@ pub struct Limits {
 }
 
 /// This call kills its node before its first such step.
-#[derive(Clone, Copy, Debug, PartialEq, Eq)]
+#[derive(Clone, Copy, Debug, PartialEq, Eq, PartialOrd, Ord)]
 pub struct PlannedDeath {
     pub call: CallId,
     pub step: Step,

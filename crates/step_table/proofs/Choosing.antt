@@ -15,10 +15,10 @@ use Rattle.shelf.specs.Rules.{Rules, weight_at}
 use Rattle.shelf.proofs.ReadingLemmas.{one_base}
 use Rattle.shelf.proofs.Bools.{never}
 use Rattle.shelf.proofs.SameCalls.{itself, same_call}
-use Rattle.step_table.specs.Calls.{Ask, Update, Read, At, First, Reading, Migrating, Finishing, Raising, Writing, SyncingFolder, Gone, Purpose, Initialise, Serve, ServeUnlocked, initialises}
+use Rattle.step_table.specs.Calls.{Ask, Update, Read, At, First, Reading, Migrating, Finishing, Raising, Writing, SyncingFolder, Restarting, Gone, Purpose, Initialise, Serve, ServeUnlocked, initialises}
 use Rattle.step_table.specs.Effects.{Effect, asking}
 use Rattle.step_table.specs.Requests.{ReadMain}
-use Rattle.step_table.specs.Rows.{Row, IsFree, IsOpen, MayTake, waits, full, takes_first, takes, goes_without, gives, read_fails, too_long, unreadable, loads, migrates, finishes, refuses, keeps, past_limit, changes, raises, creates, appends, syncs_scratch, renames, write_fails, acknowledges, sync_fails}
+use Rattle.step_table.specs.Rows.{Row, IsFree, IsOpen, MayTake, waits, full, takes_first, takes, goes_without, gives, read_fails, too_long, unreadable, loads, migrates, finishes, refuses, keeps, past_limit, changes, raises, creates, appends, syncs_scratch, renames, write_fails, acknowledges, sync_fails, finds_alive, restarts}
 use Rattle.step_table.specs.World.{World}
 use Rattle.step_table.proofs.Chosen.{Luck, Meets, IsSame, IsSameFor, chosen, enter, give, has_to_lock, is_faulted, is_open, is_other, length_of, take, use_base}
 use Rattle.step_table.proofs.Waiting.{is_short}
@@ -96,6 +96,7 @@ module _ {V T : Type 0} (r : Rules V T) where
       one_chosen (Raising plan) x y fails = refl
       one_chosen (Writing stage plan) x y fails = rw fails refl
       one_chosen (SyncingFolder ending) x y fails = rw fails refl
+      one_chosen (Restarting node) x y fails = refl
       one_chosen Gone x y fails = refl
 
 -- what makes the function choose this effect, under these limits
@@ -173,6 +174,8 @@ module _ {V T M : Type 0} (r : Rules V T) (s : Store V M) (w : World V T) (call 
   row_chosen write_fails short = chose (at_hand true) tt refl refl
   row_chosen acknowledges short = chose (at_hand false) tt refl refl
   row_chosen sync_fails short = chose (at_hand true) tt refl refl
+  row_chosen (finds_alive alive) short = chose (at_hand false) tt (rw alive refl) refl
+  row_chosen (restarts dead) short = chose (at_hand false) tt (rw dead refl) refl
   row_chosen other short = never (sym short)
 
 -- by the rules of a store, a told folder leaves one effect, unless memory lacks

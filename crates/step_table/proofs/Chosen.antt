@@ -3,19 +3,20 @@ use Rattle.std.proofs.Common.{◌≡◌, ◌≢◌, ◌-◌, ◌^◌, ◌&&◌, 
 use Rattle.store_traits.specs.declared.applied.Applied.{Applied}
 use Rattle.store_traits.specs.declared.applied.Applied.TheVariants as applied
 use Rattle.store_traits.specs.declared.ids.CallId.{CallId}
+use Rattle.store_traits.specs.declared.ids.NodeId.{NodeId}
 use Rattle.store_traits.specs.declared.update_error.UpdateError.TheVariants as error
 use Rattle.hist_journal.specs.declared.seen.BaseSeen.{BaseSeen}
 use Rattle.hist_journal.specs.declared.seen.BaseSeen.TheVariants.{Held, Corrupt, TooLong}
-use Rattle.hist_journal.specs.declared.seen.KindSeen.TheVariants.{Raise, Edit, Inited}
+use Rattle.hist_journal.specs.declared.seen.KindSeen.TheVariants.{Raise, Edit, Inited, Restart}
 use Rattle.hist_journal.specs.Folds.{edition_of}
 use Rattle.hist_journal.specs.Kinds.{is_call}
-use Rattle.hist_journal.specs.Nodes.{is_ready}
+use Rattle.hist_journal.specs.Nodes.{is_dead, is_ready}
 use Rattle.scratch_rename.specs.Filling.{next_piece}
 use Rattle.shelf.specs.declared.store.Limits.{Limits}
 use Rattle.shelf.specs.Endings.{synced_kinds}
 use Rattle.shelf.specs.Rules.{Rules, weight_at}
 use Rattle.shelf.specs.Takes.{needs_lock}
-use Rattle.step_table.specs.Calls.{Ask, Update, Read, At, First, Reading, Migrating, Finishing, Raising, Writing, SyncingFolder, Gone, Gave, Changed, Kept, Plan, Purpose, Initialise, Serve, ServeUnlocked, Stage, Creating, Appending, SyncingScratch, Renaming, Updated, want_of}
+use Rattle.step_table.specs.Calls.{Ask, Update, Read, At, First, Reading, Migrating, Finishing, Raising, Writing, SyncingFolder, Gone, Gave, Changed, Kept, Plan, Purpose, Initialise, Serve, ServeUnlocked, Stage, Creating, Appending, SyncingScratch, Renaming, Restarting, Restarted, NotDead, Updated, want_of}
 use Rattle.step_table.specs.Effects.{Effect, FolderUse, Faulted, Ends, Goes, Takes, Frees, Waits, does, goes, errs, asking, adding, fails}
 use Rattle.step_table.specs.Requests.{ReadMain, Create, Append, SyncScratch, Rename, SyncFolder}
 use Rattle.step_table.specs.Rows.{filling, kept_edit, piece_written, request_of, told_place}
@@ -105,6 +106,9 @@ module _ {V T : Type 0} (r : Rules V T) (limits : Limits) (w : World V T) (call 
   write SyncingScratch plan = asking SyncScratch (goes (Writing Renaming plan))
   write Renaming plan = asking Rename (adding (plan.change ∷ []) (goes (SyncingFolder (Changed (next_place w)))))
 
+  abbrev pub restart : NodeId → Effect V T
+  restart node = if is_dead node w.history then adding (Restart node ∷ []) (does (Ends (Restarted (next_place w)))) else does (Ends NotDead)
+
   abbrev pub chosen : At V T → Effect V T
   chosen (First ask) = if is_other w.owner call then meet ask else take ask
   chosen (Reading purpose ask) = device (asking ReadMain (use_base luck.base purpose ask)) (fails ReadMain (error.StorageFault (next_place w)))
@@ -115,6 +119,7 @@ module _ {V T : Type 0} (r : Rules V T) (limits : Limits) (w : World V T) (call 
   chosen (SyncingFolder ending) =
       device (asking SyncFolder (adding (synced_kinds (kept_edit ending)) (does (Ends (Updated (edition_of w.history))))))
       (fails SyncFolder (error.NotDurable (told_place (next_place w) ending)))
+  chosen (Restarting node) = restart node
   chosen Gone = does Waits
 
   -- what may be met there, where main reads so

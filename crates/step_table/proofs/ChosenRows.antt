@@ -8,15 +8,15 @@ use Rattle.store_traits.specs.declared.ids.CallId.{CallId}
 use Rattle.file_lock.specs.Owner.{IsAnother}
 use Rattle.hist_journal.specs.declared.seen.BaseSeen.{BaseSeen}
 use Rattle.hist_journal.specs.declared.seen.BaseSeen.TheVariants.{Held, Corrupt, TooLong}
-use Rattle.hist_journal.specs.Nodes.{is_ready}
+use Rattle.hist_journal.specs.Nodes.{is_dead, is_ready}
 use Rattle.shelf.specs.declared.store.Store.{Store}
 use Rattle.shelf.specs.Rules.{Rules, weight_at}
 use Rattle.shelf.proofs.Bools.{never}
 use Rattle.shelf.proofs.SameCalls.{itself}
-use Rattle.step_table.specs.Calls.{Ask, Update, Read, At, First, Reading, Migrating, Finishing, Raising, Writing, SyncingFolder, Gone, Plan, Purpose, Initialise, Serve, ServeUnlocked, Stage, Creating, Appending, SyncingScratch, Renaming}
+use Rattle.step_table.specs.Calls.{Ask, Update, Read, At, First, Reading, Migrating, Finishing, Raising, Writing, SyncingFolder, Restarting, Gone, Plan, Purpose, Initialise, Serve, ServeUnlocked, Stage, Creating, Appending, SyncingScratch, Renaming}
 use Rattle.step_table.specs.Effects.{Effect, asking}
 use Rattle.step_table.specs.Requests.{ReadMain}
-use Rattle.step_table.specs.Rows.{Row, IsFree, IsOpen, MayTake, Makes, waits, full, takes_first, takes, goes_without, gives, read_fails, too_long, unreadable, loads, migrates, finishes, refuses, keeps, past_limit, changes, raises, creates, appends, syncs_scratch, renames, write_fails, acknowledges, sync_fails}
+use Rattle.step_table.specs.Rows.{Row, IsFree, IsOpen, MayTake, Makes, waits, full, takes_first, takes, goes_without, gives, read_fails, too_long, unreadable, loads, migrates, finishes, refuses, keeps, past_limit, changes, raises, creates, appends, syncs_scratch, renames, write_fails, acknowledges, sync_fails, finds_alive, restarts}
 use Rattle.step_table.specs.World.{World}
 use Rattle.step_table.proofs.Chosen.{Luck, Meets, IsSame, IsSameFor, apply, chosen, enter, has_to_lock, is_open, is_other, length_of, meet, take, use_base, write}
 use Rattle.step_table.proofs.Choosing.{Reads, other_is}
@@ -125,4 +125,5 @@ module _ {V T M : Type 0} (r : Rules V T) (s : Store V M) (w : World V T) (call 
       chosen_row (Raising plan) served meets = raises
       chosen_row (Writing stage plan) served meets = split (Is (Writing stage plan)) luck.fails _ _ (λ is. write_fails) (λ well. writes stage plan)
       chosen_row (SyncingFolder ending) served meets = split (Is (SyncingFolder ending)) luck.fails _ _ (λ is. sync_fails) (λ well. acknowledges)
+      chosen_row (Restarting node) served meets = split (Is (Restarting node)) (is_dead node w.history) _ _ (λ dead. restarts dead) (λ alive. finds_alive alive)
       chosen_row other served meets = never served

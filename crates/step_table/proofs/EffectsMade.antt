@@ -1,12 +1,12 @@
 -- What an effect makes of world and call, computed, where the folder goes well or fails as that is due.
 use Rattle.std.proofs.Common.{◌≡◌, ◌^◌, nat_lt, Bool, true, false, ◌&&◌, not, ◌++◌, [], refl}
-use Rattle.folder_disk.specs.Contents.{Contents, Unsynced, Synced, Loosened, scratch_bytes, renamed, folder_synced}
+use Rattle.folder_disk.specs.Contents.{Contents, Unsynced, Synced, scratch_bytes, renamed, folder_synced}
 use Rattle.folder_disk.specs.Contents as folder
 use Rattle.folder_disk.specs.Due as plan
 use Rattle.step_table.specs.Calls.{Call}
 use Rattle.step_table.specs.Effects.{Comes, Effect, Faulted, FolderUse, Served, Unused, call_by, gave_by, world_by}
 use Rattle.step_table.specs.Requests.{Append, Create, Leaves, ReadMain, Rename, Request, SyncFolder, SyncScratch, call_of}
-use Rattle.step_table.specs.World.{World, Turned}
+use Rattle.step_table.specs.World.{World, Turned, begin}
 use Rattle.step_table.proofs.Tallied.{failed_so, has_failed, well_so, went_well}
 
 -- what a request that goes well makes of the folder
@@ -39,6 +39,10 @@ leaves_ill SyncFolder c = refl
 module _ {V T : Type 0} (w : World V T) (c : Call V T) where
   abbrev pub turn_to : World V T → Turned V T
   turn_to now = record { world = w; call = c; world_after = now; call_after = c }
+
+  -- the call as its turn begins
+  abbrev pub begun : Call V T
+  begun = (begin (turn_to w)).call
 
   -- what the folder leaves
   abbrev left : FolderUse → World V T

@@ -4,7 +4,7 @@ use Rattle.std.proofs.lemmas.Bool.{and_parts, eqb-true}
 use Rattle.store_traits.specs.declared.update_error.UpdateError.{UpdateError}
 use Rattle.store_traits.specs.declared.update_error.UpdateError.TheVariants.{Died, HistoryFull, NotDurable, StorageFault}
 use Rattle.shelf.proofs.Bools.{never}
-use Rattle.step_table.specs.Calls.{Failed, Gave, Reply, Updated}
+use Rattle.step_table.specs.Calls.{Failed, Gave, Reply, Restarted, Updated}
 use Rattle.step_table.specs.declared.progress.Progress.{Progress}
 use Rattle.step_table.specs.declared.progress.Progress.TheVariants.{Moved, Blocked, Ended}
 
@@ -19,6 +19,7 @@ abbrev is_reply : Reply ℕ → Reply ℕ → Bool
 is_reply (Updated edition) (Updated other) = edition == other
 is_reply (Gave edition value) (Gave other new) = edition == other && value == new
 is_reply (Failed error) (Failed other) = is_error error other
+is_reply (Restarted place) (Restarted other) = place == other
 is_reply reply other = false
 
 abbrev pub is_gave : Progress (Reply ℕ) → Progress (Reply ℕ) → Bool
@@ -42,6 +43,7 @@ reply_so : (reply other : Reply ℕ) → is_reply reply other ≡ true → reply
 reply_so (Updated edition) (Updated other) is = ap Updated (eqb-true edition other is)
 reply_so (Gave edition value) (Gave other new) is = both_so Gave edition other value new is
 reply_so (Failed error) (Failed other) is = ap Failed (error_so error other is)
+reply_so (Restarted place) (Restarted other) is = ap Restarted (eqb-true place other is)
 reply_so reply other is = never is
 
 pub gave_so : (gave other : Progress (Reply ℕ)) → is_gave gave other ≡ true → gave ≡ other

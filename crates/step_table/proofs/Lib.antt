@@ -2,11 +2,14 @@ pub mod Applying
 pub mod Chosen
 pub mod ChosenRows
 pub mod Choosing
+pub mod DeathTurns
 pub mod EffectsMade
 pub mod GaveTests
+pub mod GrowingDeaths
 pub mod LockKept
 pub mod LockLemmas
 pub mod OneTurn
+pub mod OwnersAlive
 pub mod Played
 pub mod PlayedTurns
 pub mod Publishing

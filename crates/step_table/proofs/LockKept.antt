@@ -8,7 +8,7 @@ use Rattle.shelf.specs.declared.store.Store.{Store}
 use Rattle.shelf.specs.Rules.{Rules}
 use Rattle.shelf.proofs.Bools.{never}
 use Rattle.step_table.specs.Calls.{At, Reply, is_gone}
-use Rattle.step_table.specs.Effects.{Effect, Next, Waits, Goes, Ends, Stays, Takes, Frees, owner_by}
+use Rattle.step_table.specs.Effects.{Effect, Next, Waits, Goes, Ends, Ceases, Stays, Takes, Frees, owner_by}
 use Rattle.step_table.specs.Laws.{LeavesLock}
 use Rattle.step_table.specs.Rows.{Row, IsFree, takes_first, takes}
 use Rattle.step_table.specs.Turn.{AllowedBy, Turn, has_died_by, dies_now}
@@ -30,6 +30,7 @@ module _ {V T : Type 0} where
   by_stays (Goes Takes at) call other stays unlike = never (sym stays)
   by_stays (Goes Frees at) call other stays unlike = another_keeps (is_call call other) other unlike
   by_stays (Ends reply) call other stays unlike = another_keeps (is_call call other) other unlike
+  by_stays (Ceases place) call other stays unlike = refl
 
   after_stays : (dies : Bool) (next : Next V T) (call other : CallId) → is_taking next ≡ false → is_call call other ≡ false
       → (dies ≡ true → (other.node.0 == call.node.0) ≡ false)

@@ -1,5 +1,5 @@
 -- Who owns the lock once it is freed.
-use Rattle.std.proofs.Common.{◌≡◌, ◌==◌, Bool, true, false, Option, Some, None, refl, if◌then◌else◌}
+use Rattle.std.proofs.Common.{◌≡◌, ◌==◌, Bool, true, false, Option, Some, None, refl, sym, if◌then◌else◌}
 use Rattle.std.proofs.lemmas.Bool.{eq-eqb}
 use Rattle.store_traits.specs.declared.ids.CallId.{CallId}
 use Rattle.store_traits.specs.declared.ids.NodeId.{NodeId}
@@ -40,6 +40,15 @@ not_freed call (Some owner) same = none_by (is_call call owner) call owner (λ e
 pub node_freed : (call : CallId) (owner : Option CallId) → freed_node call.node owner ≡ Some call → ⊥
 node_freed call None same = none_not_some call same
 node_freed call (Some owner) same = none_by (owner.node.0 == call.node.0) call owner (λ equal. rw equal (eq-eqb call.node.0 call.node.0 refl)) same
+
+-- whoever still owns it is of another node
+apart_by : (own : Bool) (node : NodeId) (owner other : CallId) → (owner.node.0 == node.0) ≡ own → (if own then None else Some owner) ≡ Some other → (other.node.0 == node.0) ≡ false
+apart_by true node owner other is left = absurd (none_not_some other left)
+apart_by false node owner other is left = rw (sym (same_some owner other left)) is
+
+pub freed_node_apart : (node : NodeId) (other : CallId) (owner : Option CallId) → freed_node node owner ≡ Some other → (other.node.0 == node.0) ≡ false
+freed_node_apart node other None left = absurd (none_not_some other left)
+freed_node_apart node other (Some owner) left = apart_by (owner.node.0 == node.0) node owner other refl left
 
 -- another call keeps it
 pub another_keeps : (free : Bool) (owner : CallId) → free ≡ false → (if free then None else Some owner) ≡ Some owner

@@ -1,13 +1,13 @@
 -- Two turns of a call in one told world come to the same, where memory lasts and a call that fails spares the folder.
 use Rattle.std.proofs.Common.{◌≡◌, ◌∙◌, ℕ, Bool, true, false, List, Option, Some, None, refl, sym, ap, subst}
-use Rattle.store_traits.specs.declared.update_error.UpdateError.TheVariants.{Died, NoMemory}
+use Rattle.store_traits.specs.declared.update_error.UpdateError.TheVariants.{NoMemory}
 use Rattle.folder_disk.specs.Contents.{ChangesScratch, Contents, Kept, Scratch}
 use Rattle.folder_disk.specs.Due as plan
 use Rattle.shelf.specs.declared.store.Store.{Store}
 use Rattle.shelf.specs.Rules.{Rules}
 use Rattle.shelf.proofs.Bools.{never}
 use Rattle.step_table.specs.Calls.{At, Call, Failed, Reading, Reply, SyncingFolder, Writing, is_gone}
-use Rattle.step_table.specs.Effects.{Comes, Effect, Ends, Faulted, FolderUse, Next, Served, SparesFolder, Unused, Uses, errs, gave_by, world_by}
+use Rattle.step_table.specs.Effects.{Ceases, Comes, Effect, Ends, Faulted, FolderUse, Next, Served, SparesFolder, Unused, Uses, does, gave_by, world_by}
 use Rattle.step_table.specs.Requests.{Append, Create, Leaves, ReadMain, Rename, Request, SyncFolder, SyncScratch, call_of}
 use Rattle.step_table.specs.Rows.{Row, read_lacks_memory, request_of}
 use Rattle.step_table.specs.Turn.{AllowedBy, Turn, dies_now, has_died_by}
@@ -103,7 +103,7 @@ module _ {V T M : Type 0} (r : Rules V T) (s : Store V M) (read_once : (bytes : 
         → is_short e.next ≡ false → is_short f.next ≡ false → Uses (begun x c1) e e.folder → Uses (begun y c2) f f.folder → e ≡ f
     one_allowed true died dies e f a b long also used too = absurd a
     one_allowed false true dies e f a b long also used too =
-        a.is ∙ ap (λ (place : ℕ). errs (Died place)) (same_some a.place b.place (sym a.last ∙ b.last)) ∙ sym b.is
+        a.is ∙ ap (λ (place : ℕ). does (Ceases place)) (same_some a.place b.place (sym a.last ∙ b.last)) ∙ sym b.is
     one_allowed false false true e f a b long also used too = a ∙ sym b
     one_allowed false false false e f a b long also used too =
         one_effect r s read_once w told c.id e f a b long also

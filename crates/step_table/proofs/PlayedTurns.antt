@@ -4,7 +4,6 @@ use Rattle.std.proofs.lemmas.Bool.Decides.{nat_tests}
 use Rattle.std.proofs.lemmas.Bool.{eqb-true, eqb-false, and_parts}
 use Rattle.store_traits.specs.declared.applied.Applied.{Applied}
 use Rattle.store_traits.specs.declared.applied.Applied.TheVariants.{Changed, Refused}
-use Rattle.store_traits.specs.declared.update_error.UpdateError.TheVariants.{Died}
 use Rattle.hist_journal.specs.declared.seen.BaseSeen.TheVariants.{Held}
 use Rattle.shelf.specs.declared.examples.ExampleEdit.{ExampleEdit}
 use Rattle.shelf.specs.declared.store.Store.{Store}
@@ -13,14 +12,14 @@ use Rattle.shelf.specs.Deaths.{last_death}
 use Rattle.shelf.specs.ExampleStore.{after, reads}
 use Rattle.shelf.proofs.Bools.{never}
 use Rattle.step_table.specs.Calls.{At, Ask, Call, Initialise, Purpose, Read, Reading, Serve, ServeUnlocked, Update, is_gone}
-use Rattle.step_table.specs.Effects.{Effect, errs, gave_by}
+use Rattle.step_table.specs.Effects.{Ceases, Effect, does, gave_by}
 use Rattle.step_table.specs.ExampleTurns.{rules}
 use Rattle.step_table.specs.Turn.{AllowedBy, Turn, dies_now, dying, has_died_by}
-use Rattle.step_table.specs.World.{World, Turned, begin}
+use Rattle.step_table.specs.World.{World, Turned}
 use Rattle.step_table.proofs.Chosen.{IsSame, IsSameFor, Luck, Meets, chosen}
 use Rattle.step_table.proofs.ChosenRows.{chosen_row, is_served, less_than}
 use Rattle.step_table.proofs.Choosing.{Reads}
-use Rattle.step_table.proofs.EffectsMade.{comes_by, is_as_due, is_due, turn_to, turned_by}
+use Rattle.step_table.proofs.EffectsMade.{begun, comes_by, is_as_due, is_due, turn_to, turned_by}
 
 -- the number that main reads as
 abbrev number_in : Option (List ℕ) → ℕ
@@ -87,7 +86,7 @@ module _ (s : Store ℕ (Unit {0})) (none : s.migrations ≡ []) where
 
     -- what died before, or is to die, goes first
     abbrev effect_by : (died dies : Bool) → Effect ℕ ExampleEdit
-    effect_by true dies = errs (Died (place_in (last_death c.id.node w.history)))
+    effect_by true dies = does (Ceases (place_in (last_death c.id.node w.history)))
     effect_by false true = dying (turn_to w c w)
     effect_by false false = row_effect (is_due w c (row_effect false).folder)
 
@@ -123,29 +122,26 @@ module _ (s : Store ℕ (Unit {0})) (none : s.migrations ≡ []) where
 
   -- the turn of this call: its effect, where that leads, and whether it follows the table
   module _ (w : World ℕ ExampleEdit) (call : Call ℕ ExampleEdit) where
-    abbrev begun : Call ℕ ExampleEdit
-    begun = (begin (turn_to w call w)).call
-
     abbrev has_died : Bool
-    has_died = has_died_by (turn_to w begun w)
+    has_died = has_died_by (turn_to w (begun w call) w)
 
     abbrev dies : Bool
-    dies = dies_now (turn_to w begun w)
+    dies = dies_now (turn_to w (begun w call) w)
 
     abbrev pub effect : Effect ℕ ExampleEdit
-    effect = effect_by w begun has_died dies
+    effect = effect_by w (begun w call) has_died dies
 
     abbrev pub turned : Turned ℕ ExampleEdit
-    turned = record (turned_by w begun effect) { call = call }
+    turned = record (turned_by w (begun w call) effect) { call = call }
 
     abbrev pub may_turn : Bool
-    may_turn = is_allowed w begun (is_gone call.at) has_died dies && is_as_due w begun effect.folder
+    may_turn = is_allowed w (begun w call) (is_gone call.at) has_died dies && is_as_due w (begun w call) effect.folder
 
     pub turn_so : may_turn ≡ true → Turn rules s turned (gave_by effect.next)
     turn_so is =
-        let parts = and_parts (is_allowed w begun (is_gone call.at) has_died dies) (is_as_due w begun effect.folder) is in
+        let parts = and_parts (is_allowed w (begun w call) (is_gone call.at) has_died dies) (is_as_due w (begun w call) effect.folder) is in
         record {
           effect = effect;
-          allowed = allowed_so w begun (is_gone call.at) has_died dies (turned_by w begun effect) refl refl parts.0;
-          comes = comes_by w begun effect.folder effect parts.1;
+          allowed = allowed_so w (begun w call) (is_gone call.at) has_died dies (turned_by w (begun w call) effect) refl refl parts.0;
+          comes = comes_by w (begun w call) effect.folder effect parts.1;
         }

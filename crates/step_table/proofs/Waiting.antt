@@ -10,7 +10,7 @@ use Rattle.shelf.proofs.Bools.{never}
 use Rattle.step_table.specs.Calls.{At, First, Reply, Failed, is_first, is_gone, is_locking}
 use Rattle.step_table.specs.Effects.{Effect, Next, Waits, Ends, Comes, asking, does, errs, gave_by}
 use Rattle.step_table.specs.Requests.{ReadMain}
-use Rattle.step_table.specs.Rows.{Row, waits, full, lacks_room, takes_first, takes, goes_without, read_lacks_memory, lacks_memory, migrating_lacks_memory}
+use Rattle.step_table.specs.Rows.{Row, waits, full, lacks_room, takes_first, takes, goes_without, read_lacks_memory, lacks_memory, migrating_lacks_memory, lacks_room_to_restart}
 use Rattle.step_table.specs.Turn.{AllowedBy, Turn, has_died_by, dies_now}
 use Rattle.step_table.specs.World.{World, Turned, begin, is_ready_now}
 use Rattle.step_table.specs.declared.progress.Progress.{Progress}
@@ -63,6 +63,7 @@ module _ {V T M : Type 0} (r : Rules V T) (s : Store V M) where
     row_short read_lacks_memory is = inl refl
     row_short lacks_memory is = inr refl
     row_short migrating_lacks_memory is = inl refl
+    row_short (lacks_room_to_restart dead) is = inl refl
     row_short other is = never is
 
   waits_by : (gone died dies : Bool) (t : Turned V T) (e : Effect V T) → AllowedBy r s gone died dies t e → is_waiting e.next ≡ true

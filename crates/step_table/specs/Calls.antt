@@ -1,6 +1,7 @@
 -- A call in progress: what it asks for, who makes it, where it is, and what it is answered.
 use Rattle.std.specs.Prelude.{ℕ, Bool, true, false, Option, if◌then◌else◌, Result, Ok, Err}
 use Rattle.store_traits.specs.declared.ids.CallId.{CallId}
+use Rattle.store_traits.specs.declared.ids.NodeId.{NodeId}
 use Rattle.store_traits.specs.declared.step.Step.{Step}
 use Rattle.store_traits.specs.declared.step.Step.TheVariants as step
 use Rattle.store_traits.specs.declared.update_error.UpdateError.{UpdateError}
@@ -22,6 +23,9 @@ pub data Reply (V : Type 0) : Type 0 where
   Updated : (edition : ℕ) → Reply V
   Gave : (edition : ℕ) → (value : V) → Reply V
   Failed : (error : UpdateError) → Reply V
+  -- of a restart: the place of its entry, or that the node is not dead
+  Restarted : (place : ℕ) → Reply V
+  NotDead : Reply V
 
 -- a value change that is being written, the value that it makes, and how far its text is in the scratch file
 pub record Plan (V T : Type 0) : Type 0 where
@@ -63,6 +67,8 @@ pub data At (V T : Type 0) : Type 0 where
   Writing : (stage : Stage) → (plan : Plan V T) → At V T
   -- U8
   SyncingFolder : (ending : Ending T) → At V T
+  -- R1: this node is to be brought back
+  Restarting : (node : NodeId) → At V T
   -- it has ended
   Gone : At V T
 
@@ -134,4 +140,5 @@ module _ {V T : Type 0} where
   step_at ready (Raising plan) = step.U3
   step_at ready (Writing stage plan) = writing_step stage
   step_at ready (SyncingFolder ending) = step.U8
+  step_at ready (Restarting node) = step.R1
   step_at ready Gone = step.I1

@@ -2,6 +2,7 @@
 use Rattle.std.specs.Prelude.{◌≡◌, ◌+◌, ℕ, Bool, true, false, List, [], ◌∷◌, ◌++◌, Option, Some, if◌then◌else◌}
 use Rattle.store_traits.specs.declared.ids.CallId.{CallId}
 use Rattle.store_traits.specs.declared.update_error.UpdateError.{UpdateError}
+use Rattle.store_traits.specs.declared.update_error.UpdateError.TheVariants.{Died}
 use Rattle.file_lock.specs.Owner.{freed_node}
 use Rattle.hist_journal.specs.declared.device.Device.TheVariants.{Folder}
 use Rattle.hist_journal.specs.declared.seen.KindSeen.{KindSeen}
@@ -22,11 +23,12 @@ pub data LockMove : Type 0 where
   Takes : LockMove
   Frees : LockMove
 
--- a call that ends frees the lock if it owns it
+-- a call that ends frees the lock if it owns it; one whose node died before leaves all as it is, and is told where the node died
 pub data Next (V T : Type 0) : Type 0 where
   Waits : Next V T
   Goes : (lock : LockMove) → (at : At V T) → Next V T
   Ends : (reply : Reply V) → Next V T
+  Ceases : (place : ℕ) → Next V T
 
 -- which call of the folder is made, and how it goes
 pub data FolderUse : Type 0 where
@@ -83,11 +85,13 @@ module _ {V T : Type 0} where
   gave_by Waits = Blocked
   gave_by (Goes lock at) = Moved
   gave_by (Ends reply) = Ended reply
+  gave_by (Ceases place) = Ended (Failed (Died place))
 
   abbrev pub at_by : Next V T → At V T → At V T
   at_by Waits at = at
   at_by (Goes lock next) at = next
   at_by (Ends reply) at = Gone
+  at_by (Ceases place) at = Gone
 
   abbrev pub owner_by : Next V T → CallId → Option CallId → Option CallId
   owner_by Waits call owner = owner
@@ -95,6 +99,7 @@ module _ {V T : Type 0} where
   owner_by (Goes Takes at) call owner = Some call
   owner_by (Goes Frees at) call owner = freed call owner
   owner_by (Ends reply) call owner = freed call owner
+  owner_by (Ceases place) call owner = owner
 
   -- the call does the last turn, or another
   abbrev pub call_by : Effect V T → Call V T → Call V T

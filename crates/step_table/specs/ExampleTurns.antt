@@ -1,7 +1,8 @@
 -- Calls on the small store, whose turns they take, and what is there in the end.
 use Rattle.std.specs.Prelude.{ℕ, suc, zero, List, [], ◌∷◌, ◌++◌, Option, Some, None, true}
 use Rattle.store_traits.specs.declared.ids.CallId.{CallId}
-use Rattle.store_traits.specs.declared.step.Step.TheVariants.{U6}
+use Rattle.store_traits.specs.declared.ids.NodeId.{NodeId}
+use Rattle.store_traits.specs.declared.step.Step.TheVariants.{U1, U6}
 use Rattle.store_traits.specs.declared.update_error.UpdateError.TheVariants.{Died, HistoryFull, NotDurable, StorageFault}
 use Rattle.folder_disk.specs.Contents.{Contents, Images}
 use Rattle.folder_disk.specs.Contents as folder
@@ -16,7 +17,7 @@ use Rattle.shelf.specs.declared.store.Store.{Store}
 use Rattle.shelf.specs.ExampleStore.{meanings, encoded, reads, empty, holds_one, Entry, n1, n2}
 use Rattle.shelf.specs.LawfulExamples as lawful
 use Rattle.shelf.specs.Rules.{Rules}
-use Rattle.step_table.specs.Calls.{Call, First, Gone, Update, Read, Reply, Updated, Gave, Failed}
+use Rattle.step_table.specs.Calls.{Call, First, Restarting, Gone, Update, Read, Reply, Updated, Gave, Failed, Restarted}
 use Rattle.step_table.specs.declared.progress.Progress.TheVariants.{Moved, Blocked, Ended}
 use Rattle.step_table.specs.Runs.{Did, Scene}
 use Rattle.step_table.specs.World.{World}
@@ -37,6 +38,9 @@ update id edit = record { id = id; at = First (Update edit); since = None }
 
 abbrev pub read : CallId → Call ℕ ExampleEdit
 read id = record { id = id; at = First Read; since = None }
+
+abbrev pub restarts : CallId → NodeId → Call ℕ ExampleEdit
+restarts id node = record { id = id; at = Restarting node; since = None }
 
 -- a call in the end, whose earliest turn found so many entries
 abbrev pub over : CallId → ℕ → Call ℕ ExampleEdit
@@ -153,6 +157,24 @@ death_end =
     record {
       world = at_end deadly (2 ∷ []) lawful.death_after_raise 2 (tally 0 [] (record { read_main = 4; create = 2; append = 2; sync_scratch = 1; rename = 1; sync_folder = 1 }));
       calls = over (a 1) 0 ∷ over (b 1) 0 ∷ over (a 2) 7 ∷ [];
+    }
+
+-- a store in which the first call of client a kills its node before it begins its update
+abbrev pub short_lived : Store ℕ (Unit {0})
+short_lived = record empty { deaths = record { call = a 1; step = U1 } ∷ [] }
+
+-- a call initialises its node and dies with it; another node brings that back, which is initialised again and updates
+abbrev pub restart : List (Did ℕ)
+restart = times 4 (goes 0 ∷ []) ++ answers 0 (Failed (Died 2)) ∷ answers 1 (Restarted 3) ∷ times 11 (goes 2 ∷ []) ++ answers 2 (Updated 1) ∷ []
+
+abbrev pub restart_start : Scene ℕ ExampleEdit
+restart_start = record { world = at_start short_lived; calls = update (a 1) (Set 1) ∷ restarts (b 1) n1 ∷ update (a 2) (Set 2) ∷ [] }
+
+abbrev pub restart_end : Scene ℕ ExampleEdit
+restart_end =
+    record {
+      world = at_end short_lived (2 ∷ []) lawful.restarted 1 (tally 0 [] (record { read_main = 3; create = 1; append = 1; sync_scratch = 1; rename = 1; sync_folder = 1 }));
+      calls = over (a 1) 0 ∷ over (b 1) 2 ∷ over (a 2) 3 ∷ [];
     }
 
 -- the first rename is planned to fail

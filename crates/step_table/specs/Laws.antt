@@ -1,9 +1,22 @@
 -- What holds of every turn.
-use Rattle.std.specs.Prelude.{◌≡◌, ◌≢◌, ◌==◌, false, List, Some}
+use Rattle.std.specs.Prelude.{◌≡◌, ◌≢◌, ◌==◌, true, false, List, Some}
 use Rattle.store_traits.specs.declared.ids.CallId.{CallId}
 use Rattle.hist_journal.specs.declared.seen.KindSeen.{KindSeen}
+use Rattle.hist_journal.specs.Kinds.{is_change}
 use Rattle.shelf.specs.Entries.{with_entries}
-use Rattle.step_table.specs.World.{Turned}
+use Rattle.shelf.specs.Deaths.{has_died}
+use Rattle.step_table.specs.Calls.{At, Call, Writing}
+use Rattle.step_table.specs.World.{Turned, World}
+
+module _ {V T : Type 0} where
+  -- where the call owns the lock, its node has not died since it began
+  abbrev pub OwnsAlive : World V T → Call V T → Type 0
+  OwnsAlive w call = w.owner ≡ Some call.id → has_died call.id.node call.since w.history ≡ false
+
+  -- what the call writes, if it writes, is a value change
+  abbrev pub WritesAChange : At V T → Type 0
+  WritesAChange (Writing stage plan) = is_change plan.change ≡ true
+  WritesAChange other = Unit {0}
 
 module _ {V T : Type 0} (t : Turned V T) where
   -- it adds entries of its own call at the end, and nothing else

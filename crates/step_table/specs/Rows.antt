@@ -2,13 +2,14 @@
 use Rattle.std.specs.Prelude.{◌≡◌, ◌≢◌, ◌<◌, ◌≤◌, ℕ, Bool, true, false, [], ◌∷◌, length, Option, Some, None, IsTrue, if◌then◌else◌, ◌==◌}
 use Rattle.store_traits.specs.declared.applied.Applied.TheVariants as applied
 use Rattle.store_traits.specs.declared.ids.CallId.{CallId}
+use Rattle.store_traits.specs.declared.ids.NodeId.{NodeId}
 use Rattle.store_traits.specs.declared.update_error.UpdateError.TheVariants as error
 use Rattle.file_lock.specs.Owner.{IsAnother}
 use Rattle.hist_journal.specs.declared.seen.BaseSeen.{BaseSeen}
 use Rattle.hist_journal.specs.declared.seen.BaseSeen.TheVariants.{Held, Corrupt, TooLong}
-use Rattle.hist_journal.specs.declared.seen.KindSeen.TheVariants.{Raise, Edit, Inited}
+use Rattle.hist_journal.specs.declared.seen.KindSeen.TheVariants.{Raise, Edit, Inited, Restart}
 use Rattle.hist_journal.specs.Folds.{edition_of}
-use Rattle.hist_journal.specs.Nodes.{is_ready}
+use Rattle.hist_journal.specs.Nodes.{is_dead, is_ready}
 use Rattle.scratch_rename.specs.Filling.{next_piece, filled_more}
 use Rattle.shelf.specs.declared.store.Store.{Store}
 use Rattle.shelf.specs.Base.{ReadsAs}
@@ -16,7 +17,7 @@ use Rattle.shelf.specs.Endings.{synced_kinds}
 use Rattle.shelf.specs.PastBounds.{IsFull, IsPastLimit}
 use Rattle.shelf.specs.Rules.{Rules, weight_at}
 use Rattle.shelf.specs.Takes.{needs_lock}
-use Rattle.step_table.specs.Calls.{Ask, Update, Read, At, First, Reading, Migrating, Finishing, Raising, Writing, SyncingFolder, Ending, Changed, Kept, Plan, Purpose, Initialise, Serve, ServeUnlocked, Stage, Creating, Appending, SyncingScratch, Renaming, Updated, Gave, initialises, want_of}
+use Rattle.step_table.specs.Calls.{Ask, Update, Read, At, First, Reading, Migrating, Finishing, Raising, Writing, SyncingFolder, Ending, Changed, Kept, Plan, Purpose, Initialise, Serve, ServeUnlocked, Stage, Creating, Appending, SyncingScratch, Renaming, Restarting, Updated, Gave, NotDead, Restarted, initialises, want_of}
 use Rattle.step_table.specs.Effects.{Effect, Ends, Goes, Takes, Frees, Waits, does, goes, errs, asking, adding, fails}
 use Rattle.step_table.specs.Requests.{Request, ReadMain, Create, Append, SyncScratch, Rename, SyncFolder}
 use Rattle.step_table.specs.World.{World, next_place}
@@ -125,3 +126,7 @@ module _ {V T M : Type 0} (r : Rules V T) (s : Store V M) (w : World V T) (call 
     -- U8: the folder is synced
     acknowledges : {ending : Ending T} → Row (SyncingFolder ending) (asking SyncFolder (adding (synced_kinds (kept_edit ending)) (does (Ends (Updated (edition_of w.history))))))
     sync_fails : {ending : Ending T} → Row (SyncingFolder ending) (fails SyncFolder (error.NotDurable (told_place (next_place w) ending)))
+    -- R1: a dead node lives again, not initialised
+    finds_alive : {node : NodeId} → is_dead node w.history ≡ false → Row (Restarting node) (does (Ends NotDead))
+    lacks_room_to_restart : {node : NodeId} → is_dead node w.history ≡ true → Row (Restarting node) (errs error.NoMemory)
+    restarts : {node : NodeId} → is_dead node w.history ≡ true → Row (Restarting node) (adding (Restart node ∷ []) (does (Ends (Restarted (next_place w)))))

@@ -1,13 +1,13 @@
 -- Single turns on the small store: some that follow the table, and some that do not.
 use Rattle.std.specs.Prelude.{ℕ, true, [], ◌∷◌, Some, None}
-use Rattle.hist_journal.specs.declared.seen.KindSeen.TheVariants.{Raise, Edit, Synced, Inited, Death}
+use Rattle.hist_journal.specs.declared.seen.KindSeen.TheVariants.{Raise, Edit, Synced, Inited, Death, Restart}
 use Rattle.folder_disk.specs.Contents.{Images}
 use Rattle.folder_disk.specs.Contents as folder
 use Rattle.shelf.specs.declared.examples.ExampleEdit.{ExampleEdit}
 use Rattle.shelf.specs.declared.examples.ExampleEdit.TheVariants.{Set}
 use Rattle.step_table.specs.Calls.{At, Changed, Call, First, Reading, Initialise, Serve, ServeUnlocked, Writing, Creating, SyncingScratch, SyncingFolder, Gone, Update, Read}
 use Rattle.shelf.specs.ExampleStore as example
-use Rattle.step_table.specs.ExampleTurns.{a, b, at_start, deadly}
+use Rattle.step_table.specs.ExampleTurns.{a, b, at_start, deadly, over, restarts}
 use Rattle.shelf.specs.LawfulExamples as lawful
 use Rattle.step_table.specs.World.{Turned, World}
 
@@ -37,6 +37,20 @@ former_life_goes_on =
       call = at_step one;
       world_after = record restarted { folder = record restarted.folder { scratch = folder.Unsynced [] } };
       call_after = at_step (Writing SyncingScratch (record { change = Edit (Set 1); value = 1; text = record { written = []; rest = 1 ∷ [] } }));
+    }
+
+-- the call ends, and frees what is not its own any more
+abbrev pub dead_call_frees_lock : Turned ℕ ExampleEdit
+dead_call_frees_lock = record { world = record restarted { owner = Some (a 1) }; call = at_step one; world_after = restarted; call_after = gone }
+
+-- a node that lives is brought back
+abbrev pub living_node_restarted : Turned ℕ ExampleEdit
+living_node_restarted =
+    record {
+      world = at_start example.empty;
+      call = restarts (b 1) example.n1;
+      world_after = record (at_start example.empty) { history = example.b 1 (Restart example.n1) ∷ [] };
+      call_after = over (b 1) 0;
     }
 
 -- another call owns the lock
@@ -95,12 +109,18 @@ acknowledged_without_sync =
 abbrev pub doomed : World ℕ ExampleEdit
 doomed = record (at_start deadly) { owner = Some (a 1); history = example.a 1 (Inited example.n1) ∷ example.a 1 Raise ∷ []; version = 1 }
 
+-- the node is dead, and the death used up
+abbrev pub dead : World ℕ ExampleEdit
+dead = record doomed { deaths = []; history = example.a 1 (Inited example.n1) ∷ example.a 1 Raise ∷ example.a 1 (Death example.n1) ∷ [] }
+
+-- the call syncs its scratch file next
+abbrev pub syncing : Call ℕ ExampleEdit
+syncing = at_step (Writing SyncingScratch (record { change = Edit (Set 1); value = 1; text = record { written = 1 ∷ []; rest = [] } }))
+
 -- the lock stays with the dead
 abbrev pub lock_left_held : Turned ℕ ExampleEdit
-lock_left_held =
-    record {
-      world = doomed;
-      call = at_step (Writing SyncingScratch (record { change = Edit (Set 1); value = 1; text = record { written = 1 ∷ []; rest = [] } }));
-      world_after = record doomed { deaths = []; history = example.a 1 (Inited example.n1) ∷ example.a 1 Raise ∷ example.a 1 (Death example.n1) ∷ [] };
-      call_after = gone;
-    }
+lock_left_held = record { world = doomed; call = syncing; world_after = dead; call_after = gone }
+
+-- the death was used up before, and strikes all the same
+abbrev pub death_strikes_twice : Turned ℕ ExampleEdit
+death_strikes_twice = record { world = record doomed { deaths = [] }; call = syncing; world_after = record dead { owner = None }; call_after = gone }

@@ -7,7 +7,7 @@ use Rattle.shelf.specs.declared.store.Store.{Store}
 use Rattle.shelf.specs.Deaths.{has_died, last_death, strikes}
 use Rattle.shelf.specs.Rules.{Rules}
 use Rattle.step_table.specs.Calls.{Reply, is_gone}
-use Rattle.step_table.specs.Effects.{Effect, Comes, adding, errs}
+use Rattle.step_table.specs.Effects.{Ceases, Comes, Effect, adding, does, errs}
 use Rattle.step_table.specs.Rows.{Row}
 use Rattle.step_table.specs.World.{Turned, begin, next_place, step_of}
 use Rattle.step_table.specs.declared.progress.Progress.{Progress}
@@ -23,7 +23,7 @@ module _ {V T : Type 0} (t : Turned V T) where
   pub record EndsDead (e : Effect V T) : Type 0 where
     pub place : ℕ
     pub last : last_death t.call.id.node t.world.history ≡ Some place
-    pub is : e ≡ errs (Died place)
+    pub is : e ≡ does (Ceases place)
 
   -- the planned death strikes: the node is dead, and the call ends
   abbrev pub dying : Effect V T

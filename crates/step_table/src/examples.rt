@@ -2,7 +2,7 @@
 //! to the one in which it ends. The histories that they leave are among the lawful ones.
 ghost use Rattle.store_traits.specs.declared.update_error.UpdateError.TheVariants.{Died};
 ghost use Rattle.shelf.specs.ExampleStore as example;
-ghost use Rattle.step_table.specs.Calls.{Failed, Gave, Updated};
+ghost use Rattle.step_table.specs.Calls.{Failed, Gave, Restarted, Updated};
 ghost use Rattle.step_table.specs.ExampleTurns as turns;
 ghost use Rattle.step_table.specs.declared.progress.Progress.TheVariants.{Moved, Blocked, Ended};
 ghost use Rattle.step_table.specs.Runs.{Run};
@@ -17,6 +17,7 @@ pub fn runs_follow_the_table()
     ensures reads_past { Run turns.rules example.empty turns.reads_past turns.reads_past_start turns.reads_past_end }
     ensures full_history { Run turns.rules turns.narrow turns.full_history turns.full_history_start turns.full_history_end }
     ensures death_after_raise { Run turns.rules turns.deadly turns.death_after_raise turns.death_start turns.death_end }
+    ensures restart { Run turns.rules turns.short_lived turns.restart turns.restart_start turns.restart_end }
     ensures rename_fails { Run turns.rules example.empty turns.rename_fails turns.rename_fails_start turns.rename_fails_end }
     ensures sync_fails { Run turns.rules example.empty turns.sync_fails turns.sync_fails_start turns.sync_fails_end }
 {}
@@ -27,6 +28,7 @@ pub fn runs_start_where_a_session_begins()
     ensures holds_one { Begins example.holds_one (turns.at_start example.holds_one) }
     ensures narrow { Begins turns.narrow (turns.at_start turns.narrow) }
     ensures deadly { Begins turns.deadly (turns.at_start turns.deadly) }
+    ensures short_lived { Begins turns.short_lived (turns.at_start turns.short_lived) }
 {}
 
 /// A call of a node's former life ends; and none of the other turns follows the table.
@@ -39,4 +41,7 @@ pub fn wrong_turns_are_refused()
     ensures read_keeps_lock { Turn turns.rules example.empty single.read_keeps_lock (Ended (Gave 0 0)) → ⊥ }
     ensures ready_read_waits { Turn turns.rules example.empty single.ready_read_waits Blocked → ⊥ }
     ensures lock_left_held { Turn turns.rules turns.deadly single.lock_left_held (Ended (Failed (Died 3))) → ⊥ }
+    ensures death_strikes_twice { Turn turns.rules turns.deadly single.death_strikes_twice (Ended (Failed (Died 3))) → ⊥ }
+    ensures dead_call_frees_lock { Turn turns.rules example.empty single.dead_call_frees_lock (Ended (Failed (Died 3))) → ⊥ }
+    ensures living_node_restarted { Turn turns.rules example.empty single.living_node_restarted (Ended (Restarted 1)) → ⊥ }
 {}

@@ -6,10 +6,10 @@ ghost use Rattle.store_traits.specs.declared.update_error.UpdateError.TheVariant
 ghost use Rattle.file_lock.specs.Owner.{IsAnother};
 ghost use Rattle.hist_journal.specs.Folds.{raises_of};
 ghost use Rattle.shelf.specs.declared.store.Store.{Store};
-ghost use Rattle.step_table.specs.Calls.{Failed, Gone, Reply, is_locking};
+ghost use Rattle.step_table.specs.Calls.{Call, Failed, Gone, Reply, is_locking};
 ghost use Rattle.step_table.specs.declared.progress.Progress.{Progress};
 ghost use Rattle.step_table.specs.declared.progress.Progress.TheVariants.{Blocked, Ended};
-ghost use Rattle.step_table.specs.Laws.{AddsOwn, LeavesLock};
+ghost use Rattle.step_table.specs.Laws.{AddsOwn, LeavesLock, OwnsAlive, WritesAChange};
 ghost use Rattle.step_table.specs.Turn.{Turn, has_died_by, dies_now};
 ghost use Rattle.step_table.specs.World.{Turned, begin, is_ready_now};
 ghost use Rattle.shelf.specs.Rules.{rules_of};
@@ -33,12 +33,23 @@ pub fn want_of_memory_changes_nothing<C: Codec, T: Transform<Value = C::Value>, 
         → (IsTrue t.world.told → t.world_after.folder ≡ t.world.folder) × (t.world_after.history ≡ t.world.history) }
 {}
 
-/// A call that ends owns nothing, also where its node dies in that turn. Where the node died before, the lock was freed
-/// then.
+/// A call that ends owns nothing, also where its node dies in that turn. Where the node died before, the turn changes nothing
+/// of the world.
 pub fn ended_calls_own_nothing<C: Codec, T: Transform<Value = C::Value>, M>()
-    ensures { (c : C) (s : Store C.Value M) (t : Turned C.Value T) (reply : Reply C.Value)
-        → Turn (rules_of T.after T.weight_of (C.encoded c) (C.reads c) (C.default_of c)) s t (Ended reply)
-        → (t.call_after.at ≡ Gone) × (t.world_after.owner ≢ Some t.call.id) }
+    ensures ended { (c : C) (s : Store C.Value M) (t : Turned C.Value T) (reply : Reply C.Value)
+        → Turn (rules_of T.after T.weight_of (C.encoded c) (C.reads c) (C.default_of c)) s t (Ended reply) → t.call_after.at ≡ Gone }
+    ensures alive { (c : C) (s : Store C.Value M) (t : Turned C.Value T) (reply : Reply C.Value)
+        → Turn (rules_of T.after T.weight_of (C.encoded c) (C.reads c) (C.default_of c)) s t (Ended reply) → has_died_by (begin t) ≡ false → t.world_after.owner ≢ Some t.call.id }
+    ensures dead { (c : C) (s : Store C.Value M) (t : Turned C.Value T) (gave : Progress (Reply C.Value))
+        → Turn (rules_of T.after T.weight_of (C.encoded c) (C.reads c) (C.default_of c)) s t gave → has_died_by (begin t) ≡ true → (t.world_after ≡ t.world) × (t.call_after.at ≡ Gone) }
+{}
+
+/// Whoever owns the lock has not died since it began: a turn keeps this of its own call, and of every other.
+pub fn owners_are_alive<C: Codec, T: Transform<Value = C::Value>, M>()
+    ensures own { (c : C) (s : Store C.Value M) (t : Turned C.Value T) (gave : Progress (Reply C.Value))
+        → Turn (rules_of T.after T.weight_of (C.encoded c) (C.reads c) (C.default_of c)) s t gave → WritesAChange t.call.at → OwnsAlive t.world t.call → OwnsAlive t.world_after t.call_after }
+    ensures others { (c : C) (s : Store C.Value M) (t : Turned C.Value T) (gave : Progress (Reply C.Value)) (other : Call C.Value T)
+        → Turn (rules_of T.after T.weight_of (C.encoded c) (C.reads c) (C.default_of c)) s t gave → WritesAChange t.call.at → other.id ≢ t.call.id → OwnsAlive t.world other → OwnsAlive t.world_after other }
 {}
 
 /// A turn only adds entries of its own call, at the end of the history.

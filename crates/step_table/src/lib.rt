@@ -11,7 +11,7 @@ pub use examples::{
     runs_follow_the_table, runs_start_where_a_session_begins, wrong_turns_are_refused,
 };
 pub use laws::{
-    ended_calls_own_nothing, turns_leave_the_lock, turns_only_add, turns_wait_exactly,
-    versions_count_raises, want_of_memory_changes_nothing,
+    ended_calls_own_nothing, owners_are_alive, turns_leave_the_lock, turns_only_add,
+    turns_wait_exactly, versions_count_raises, want_of_memory_changes_nothing,
 };
 pub use progress::Progress;

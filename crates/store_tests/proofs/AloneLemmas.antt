@@ -13,12 +13,15 @@ use Rattle.shelf.specs.Rules.{Rules}
 use Rattle.shelf.specs.ShelfSeen.{ShelfSeen}
 use Rattle.shelf.proofs.Bools.{never}
 use Rattle.shelf.proofs.SameCalls.{itself, same_call}
+use Rattle.shelf.proofs.DeathLemmas.{has_died-now}
 use Rattle.step_table.specs.declared.progress.Progress.{Progress}
 use Rattle.step_table.specs.declared.progress.Progress.TheVariants.{Moved, Blocked, Ended}
 use Rattle.step_table.specs.Calls.{At, First, Reply, Update}
-use Rattle.step_table.specs.Turn.{Turn}
-use Rattle.step_table.specs.World.{Turned}
-use Rattle.step_table.proofs.Applying.{ended_owns_nothing, turn_owner}
+use Rattle.step_table.specs.Laws.{OwnsAlive}
+use Rattle.step_table.specs.Turn.{Turn, has_died_by}
+use Rattle.step_table.specs.World.{Turned, begin}
+use Rattle.step_table.proofs.Applying.{dead_turn_changes_nothing, ended_owns_nothing, turn_owner}
+use Rattle.step_table.proofs.OwnersAlive.{owner_stays_alive}
 use Rattle.step_table.proofs.Waiting.{turn_waits}
 use Rattle.node_core.specs.Phases.{is_finishing}
 use Rattle.node_core.specs.Ready.{rules_seen}
@@ -26,6 +29,7 @@ use Rattle.node_core.specs.Step.{StepsTo, TurnFrom}
 use Rattle.node_core.specs.StepsLeft.{steps_left}
 use Rattle.node_core.specs.Views.{turned}
 use Rattle.node_core.specs.declared.origin.Origin.{Origin}
+use Rattle.node_core.proofs.PlanLemmas.{writes_change}
 use Rattle.node_core.proofs.ReadinessLemmas.{turn_finds}
 use Rattle.node_core.proofs.StepsLemmas.{turn_steps}
 use Rattle.store_tests.specs.Alone.{IsAlone, IsNew, TellsOf}
@@ -54,15 +58,28 @@ module _ {V T M : Type 0} (r : Rules V T) (s : Store V M) (t : Turned V T) (gave
       by_owner None owned another = another
       by_owner (Some call) owned another = another (alone call owned)
 
+  -- a call whose node had died owned nothing, and owns nothing behind it
+  dead_owns_nothing : (died : Bool) → has_died_by (begin t) ≡ died → OwnsAlive t.world t.call → (reply : Reply V) → Turn r s t (Ended reply) → t.world_after.owner ≡ Some t.call.id → ⊥
+  dead_owns_nothing true died lives reply ended owns =
+      let same : t.world_after ≡ t.world = (dead_turn_changes_nothing r s t (Ended reply) ended died).world in
+      never (sym (has_died-now t.call.id.node t.call.since t.world.history ∙ lives (rw same at owns)) ∙ died)
+  dead_owns_nothing false alive lives reply ended owns = ended_owns_nothing r s t reply ended alive owns
+
   -- once it has its answer, nobody owns the lock
-  pub frees : (reply : Reply V) → gave ≡ Ended reply → t.world_after.owner ≡ None
-  frees reply is = by_owner t.world_after.owner refl
+  pub frees : OwnsAlive t.world t.call → (reply : Reply V) → gave ≡ Ended reply → t.world_after.owner ≡ None
+  frees lives reply is = by_owner t.world_after.owner refl
     where
       by_owner : (owner : Option CallId) → t.world_after.owner ≡ owner → t.world_after.owner ≡ None
       by_owner None owned = owned
       by_owner (Some call) owned =
           let ended : Turn r s t (Ended reply) = rw is at turn in
-          absurd (ended_owns_nothing r s t reply ended (owned ∙ ap (λ (c : CallId). Some c) (stays_alone call owned)))
+          absurd (dead_owns_nothing (has_died_by (begin t)) refl lives reply ended (owned ∙ ap (λ (c : CallId). Some c) (stays_alone call owned)))
+
+-- where nobody owned the lock, nobody does once a call has its answer
+pub free_at_its_end : {V T M : Type 0} (r : Rules V T) (s : Store V M) (t : Turned V T) (reply : Reply V) → Turn r s t (Ended reply) → t.world.owner ≡ None → t.world_after.owner ≡ None
+free_at_its_end r s t reply ended free =
+    let nobody : (call : CallId) → t.world.owner ≡ Some call → ⊥ = λ call owns. (let no : ◌≡◌ {A = Option CallId} None (Some call) = sym free ∙ owns in cc) in
+    frees r s t (Ended reply) ended (λ call owns. absurd (nobody call owns)) (λ owns. absurd (nobody t.call.id owns)) reply refl
 
 module _ {C F V T : Type 0} (c : codec_trait.Ghosts C V) (t : transform_trait.Ghosts T V) (f : folder_trait.Ghosts F) where
   -- a new update may begin where nobody owns the lock
@@ -72,6 +89,7 @@ module _ {C F V T : Type 0} (c : codec_trait.Ghosts C V) (t : transform_trait.Gh
         goes = new_goes_on c t f call (Update edit) s is_new node;
         readiness = λ no. never no;
         owner = λ other owns. absurd (let no : ◌≡◌ {A = Option CallId} None (Some other) = sym free ∙ owns in cc);
+        lives = λ owns. absurd (let no : ◌≡◌ {A = Option CallId} None (Some call) = sym free ∙ owns in cc);
       }
 
   module _ (origin origin_after : Origin) (initialised : Bool) (at at_after : At V T) (old new : ShelfSeen C F V T) (gave : Progress (Reply V))
@@ -89,6 +107,9 @@ module _ {C F V T : Type 0} (c : codec_trait.Ghosts C V) (t : transform_trait.Gh
           goes = goes_further c t f origin origin_after at at_after old new gave steps is before.goes;
           readiness = λ now first. rw steps.call (turn_finds (rules_seen c t f old) old.store this moved first);
           owner = λ call owns. stays_alone (rules_seen c t f old) old.store this Moved moved before.owner call owns ∙ sym steps.call;
+          lives =
+              (let knows = before.goes.ready.knows in
+              owner_stays_alive (rules_seen c t f old) old.store this Moved moved (writes_change at knows.plan) before.lives);
         }
 
     -- with fewer turns left

@@ -86,7 +86,7 @@ module _ {C F V T : Type 0} (c : codec_trait.Ghosts C V) (t : transform_trait.Gh
   may_step origin at s ready =
       record {
         last = s;
-        ready = ready;
+        ready = λ lives. ready;
         between =
             record { more = []; grew = sym (append-nil s.list); others = refl; numbers = refl; told = refl; held = λ holds. inl (record { owner = refl; scratch = λ told. refl; outer = refl }) };
         codec = refl;

@@ -10,6 +10,7 @@ use Rattle.hist_journal.specs.declared.seen.KindSeen.{KindSeen}
 use Rattle.hist_journal.specs.Nodes.{is_ready}
 use Rattle.shelf.specs.AddsNode.{is_among}
 use Rattle.shelf.specs.CallOrder.{is_later}
+use Rattle.shelf.specs.Deaths.{has_died}
 use Rattle.shelf.specs.Meanwhile.{NoneOf}
 use Rattle.shelf.specs.ShelfSeen.{ShelfSeen}
 use Rattle.step_table.specs.Calls.{At, is_first, is_gone}
@@ -34,8 +35,9 @@ pub record GoesOn {C F V T : Type 0} (c : codec_trait.Ghosts C V) (t : transform
   pub node : is_among origin.call.node s.store.nodes ≡ true
   pub ready : Ready c t f origin at s
 
--- and nobody else owns the lock; a node that the call has initialised is so at its next first turn
+-- and nobody else owns the lock, nor the call where its node has died; a node that the call has initialised is so at its next first turn
 pub record IsAlone {C F V T : Type 0} (c : codec_trait.Ghosts C V) (t : transform_trait.Ghosts T V) (f : folder_trait.Ghosts F) (origin : Origin) (initialised : Bool) (at : At V T) (s : ShelfSeen C F V T) : Type 0 where
   pub goes : GoesOn c t f origin at s
   pub readiness : initialised ≡ true → is_first at ≡ true → is_ready origin.call.node s.list ≡ true
   pub owner : (call : CallId) → s.owner ≡ Some call → call ≡ origin.call
+  pub lives : s.owner ≡ Some origin.call → has_died origin.call.node origin.since s.list ≡ false

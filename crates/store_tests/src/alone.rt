@@ -7,10 +7,10 @@ ghost use Rattle.node_core.specs.Views.{state_seen};
 ghost use Rattle.store_tests.specs.Alone.{IsAlone, IsNew, TellsOf};
 ghost use Rattle.store_tests.specs.SingleUpdate.{IsFresh};
 
-use node_core::{Progress, UpdateCall};
-use shelf::{Parts, Shelf};
+use node_core::{Progress, UpdateCall, restart};
+use shelf::{Parts, RestartError, Shelf};
 use std::alloc::Global;
-use store_traits::{CallId, UpdateError, Word};
+use store_traits::{CallId, NodeId, UpdateError, Word};
 
 /// An update goes on to its end, where nobody else has begun.
 fn go_on<P: Parts, W: Word>(
@@ -81,4 +81,23 @@ pub fn one_after_another<P: Parts, W: Word>(
     let first = to_its_end(alloc, shelf, word, one.0, one.1);
     let second = to_its_end(alloc, shelf, word, next.0, next.1);
     (first, second)
+}
+
+/// A node is brought back by a call of which nothing was told, where nobody owns the lock.
+pub fn bring_back<P: Parts>(
+    alloc: Global,
+    shelf: &mut Shelf<P>,
+    call: CallId,
+    node: NodeId,
+) -> Result<u64, RestartError>
+    requires is_new { IsNew call (shelf_seen shelf.old).list }
+    requires free { (shelf_seen shelf.old).owner ≡ None }
+    requires home { is_among call.node (shelf_seen shelf.old).store.nodes ≡ true }
+    requires node { is_among node (shelf_seen shelf.old).store.nodes ≡ true }
+    ensures free { (shelf_seen shelf.new).owner ≡ None }
+    ensures adds { TellsOf call (shelf_seen shelf.old).list (shelf_seen shelf.new).list }
+    ensures store { (shelf_seen shelf.new).store ≡ (shelf_seen shelf.old).store }
+    ensures raises { raises_of (shelf_seen shelf.new).list ≡ raises_of (shelf_seen shelf.old).list }
+{
+    restart(alloc, shelf, call, node)
 }

@@ -6,6 +6,8 @@
 #[cfg(test)]
 mod alone;
 #[cfg(test)]
+mod death_tests;
+#[cfg(test)]
 mod read_tests;
 #[cfg(test)]
 mod reads;

@@ -85,7 +85,7 @@ fn keeps_none(went: &Went<PrefMap>) -> bool {
 
 /// Whether two reads give the value and have it to publish, where so many entries make a full history.
 fn read_in(alloc: Global, entries: u64) -> Option<bool> {
-    let mut shelf = of_length(alloc, Vec::new(alloc), entries)?;
+    let mut shelf = of_length(alloc, entries)?;
     if !join(alloc, &mut shelf) {
         return None;
     }

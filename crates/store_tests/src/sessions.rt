@@ -12,10 +12,10 @@ use prefs_edit::{Edit, EditStep};
 use prefs_model::{PrefKey, PrefMap, PrefValue};
 use prefs_proto::PrefsCodec;
 use replay_run::PrefsParts;
-use shelf::{Parts, Setup, Shelf, ValueOf};
+use shelf::{DeathPlan, Parts, PlannedDeath, Setup, Shelf, ValueOf};
 use std::alloc::{AllocError, Global};
 use std::sync::Arc;
-use store_traits::{CallId, ClientId, Codec, Decoded, FileBytes, NodeId};
+use store_traits::{CallId, ClientId, Codec, Decoded, FileBytes, NodeId, Step};
 
 pub type Prefs = PrefsParts<MemFolder>;
 
@@ -55,13 +55,14 @@ pub const B_LAST: CallId = CallId {
     number: 3,
 };
 
-/// A session of one node, over a folder whose main reads as this base.
+/// A session of one node in which these deaths are planned, over a folder whose main reads as this base.
 fn session<P: Parts>(
     alloc: Global,
     codec: P::C,
     folder: P::F,
     base: Base<ValueOf<P>>,
     entries: u64,
+    deaths: Vec<PlannedDeath>,
 ) -> Option<Shelf<P>>
     requires base { IsTrue P.F.told → ReadsAs (P.C.reads codec) (P.C.default_of codec) 1048576 (P.F.contents folder).main (base_seen base) }
     ensures { IfSome result (λ shelf. IsFresh A (shelf_seen shelf)) }
@@ -74,6 +75,7 @@ fn session<P: Parts>(
         codec,
         limit: 1_048_576,
         bounds,
+        deaths: DeathPlan::new(alloc, deaths).ok()?,
     };
     let mut shelf = Shelf::new(alloc, setup, base, folder);
     let Ok(()) = shelf.add_node(alloc, A.node) else {
@@ -95,11 +97,34 @@ pub fn join<P: Parts>(alloc: Global, shelf: &mut Shelf<P>) -> bool
 pub fn without_file(alloc: Global, failing: Vec<Planned>) -> Option<Shelf<Prefs>>
     ensures { IfSome result (λ shelf. IsFresh A (shelf_seen shelf)) }
 {
-    of_length(alloc, failing, MANY)
+    planned(alloc, failing, MANY, Vec::new(alloc))
 }
 
-/// A session without a file, in which these calls of the folder fail, and so many entries make a full history.
-pub fn of_length(alloc: Global, failing: Vec<Planned>, entries: u64) -> Option<Shelf<Prefs>>
+/// A session without a file, in which so many entries make a full history.
+pub fn of_length(alloc: Global, entries: u64) -> Option<Shelf<Prefs>>
+    ensures { IfSome result (λ shelf. IsFresh A (shelf_seen shelf)) }
+{
+    planned(alloc, Vec::new(alloc), entries, Vec::new(alloc))
+}
+
+/// A session without a file, in which this call kills its node before this step.
+pub fn with_death(alloc: Global, call: CallId, step: Step) -> Option<Shelf<Prefs>>
+    ensures { IfSome result (λ shelf. IsFresh A (shelf_seen shelf)) }
+{
+    let Ok(deaths) = vec![in alloc; PlannedDeath { call, step }] else {
+        return None;
+    };
+    planned(alloc, Vec::new(alloc), MANY, deaths)
+}
+
+/// A session without a file, in which these calls of the folder fail and these deaths come, and so many entries make a full
+/// history.
+fn planned(
+    alloc: Global,
+    failing: Vec<Planned>,
+    entries: u64,
+    deaths: Vec<PlannedDeath>,
+) -> Option<Shelf<Prefs>>
     ensures { IfSome result (λ shelf. IsFresh A (shelf_seen shelf)) }
 {
     let Ok(folder) = MemFolder::new(alloc, MainRead::Absent, failing) else {
@@ -111,7 +136,8 @@ pub fn of_length(alloc: Global, failing: Vec<Planned>, entries: u64) -> Option<S
     let Ok(settings) = Arc::new(alloc, settings) else {
         return None;
     };
-    session(alloc, PrefsCodec, folder, Base::Held(settings), entries)
+    let base = Base::Held(settings);
+    session(alloc, PrefsCodec, folder, base, entries, deaths)
 }
 
 /// A session over a file of these bytes, which are a map of settings.
@@ -131,7 +157,8 @@ pub fn with_file(alloc: Global, bytes: Vec<u8>) -> Option<Shelf<Prefs>>
     let Ok(folder) = MemFolder::new(alloc, main, Vec::new(alloc)) else {
         return None;
     };
-    session(alloc, PrefsCodec, folder, Base::Held(settings), MANY)
+    let base = Base::Held(settings);
+    session(alloc, PrefsCodec, folder, base, MANY, Vec::new(alloc))
 }
 
 fn key(alloc: Global, name: &str) -> Option<PrefKey> {
@@ -187,6 +214,8 @@ fn word_of(kind: &Kind<PrefMap, Edit>) -> &'static str {
         Kind::Synced => " synced\n",
         Kind::Inited(_) => " inited\n",
         Kind::Fault(_, _) => " fault\n",
+        Kind::Death(_) => " death\n",
+        Kind::Restart(_) => " restart\n",
         _ => " another\n",
     }
 }

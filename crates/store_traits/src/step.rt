@@ -1,5 +1,5 @@
 /// The single steps of a call. Each but `V1` is one turn, in which the call holds the shared state.
-#[derive(Clone, Copy, Debug, PartialEq, Eq)]
+#[derive(Clone, Copy, Debug, PartialEq, Eq, PartialOrd, Ord)]
 pub enum Step {
     /// Initialisation: take the lock.
     I1,

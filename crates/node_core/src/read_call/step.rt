@@ -65,12 +65,12 @@ impl<P: Parts> ReadCall<P> {
         ensures made { W.made word.new ≡ W.made word.old }
     {
         // A first turn is told as `V2`: the shelf knows whether the node is initialised by then, the call does not.
-        if let Some(at) = shelf.begin(self.origin.call, self.step_where(true), self.origin.since) {
-            shelf.free(self.origin.call);
-            self.state = ReadState::Gone { kept: None };
-            return Progress::Ended(Err(ReadError::Died { at }));
+        let entries = shelf.journal().len();
+        let death = shelf.begin(self.origin.call, self.step_where(true), self.origin.since);
+        self.begin(entries);
+        if let Some(at) = death {
+            return self.die(at);
         }
-        self.begin(shelf.journal().len());
         self.work(alloc, shelf, word)
     }
 

@@ -1,4 +1,4 @@
-ghost use Rattle.std.specs.Prelude.{◌≡◌, ◌||◌, IfOk, IsTrue, false, None, true};
+ghost use Rattle.std.specs.Prelude.{◌≡◌, ◌||◌, Err, IfOk, IsTrue, false, None, true};
 ghost use Rattle.hist_journal.specs.Folds.{raises_of};
 ghost use Rattle.hist_journal.specs.Nodes.{is_dead};
 ghost use Rattle.store_traits.specs.declared.update_error.UpdateError.TheVariants as UpdateError;
@@ -56,6 +56,18 @@ impl<P: Parts> ReadCall<P> {
         let (state, progress) = state.step(self.origin, alloc, shelf, word);
         self.state = state;
         progress
+    }
+
+    /// A death ends the call before its step. None is left for which it matters whether that was to initialise the node.
+    pub(super) fn die(&mut self, at: u64) -> Progress<Result<Given<ValueOf<P>>, ReadError>>
+        ensures answer { result ≡ Progress.Ended (Err (ReadError.Died at)) }
+        ensures state { self.new.state ≡ ReadState.Gone None }
+        ensures origin { self.new.origin ≡ self.old.origin }
+        ensures initialised { self.new.initialised ≡ (self.old.initialised || is_finishing (read_seen self.old.state)) }
+    {
+        let state = mem::replace(&mut self.state, ReadState::Gone { kept: None });
+        self.initialised = self.initialised || state.is_finishing();
+        Progress::Ended(Err(ReadError::Died { at }))
     }
 }
 

@@ -1,4 +1,4 @@
-ghost use Rattle.std.specs.Prelude.{◌≡◌, ◌||◌, true, false, None};
+ghost use Rattle.std.specs.Prelude.{◌≡◌, ◌||◌, true, false, None, Err};
 ghost use Rattle.hist_journal.specs.Folds.{raises_of};
 ghost use Rattle.hist_journal.specs.Nodes.{is_dead};
 ghost use Rattle.shelf.specs.AddsNode.{is_among};
@@ -53,6 +53,18 @@ impl<P: Parts> UpdateCall<P> {
         let (state, progress) = state.step(self.origin, alloc, shelf, word);
         self.state = state;
         progress
+    }
+
+    /// A death ends the call before its step. None is left for which it matters whether that was to initialise the node.
+    pub(super) fn die(&mut self, at: u64) -> Progress<Result<u64, UpdateError>>
+        ensures answer { result ≡ Progress.Ended (Err (UpdateError.Died at)) }
+        ensures state { self.new.state ≡ State.Gone }
+        ensures origin { self.new.origin ≡ self.old.origin }
+        ensures initialised { self.new.initialised ≡ (self.old.initialised || is_finishing (state_seen self.old.state)) }
+    {
+        let state = mem::replace(&mut self.state, State::Gone);
+        self.initialised = self.initialised || state.is_finishing();
+        Progress::Ended(Err(UpdateError::Died { at }))
     }
 }
 

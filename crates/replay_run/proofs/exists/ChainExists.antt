@@ -10,14 +10,14 @@ use Rattle.script_lang.specs.Keeps.{IsBuiltAct}
 use Rattle.script_lang.specs.declared.plan.run_line.Act.{Act}
 use Rattle.script_lang.specs.declared.plan.run_line.Act.TheVariants as act
 use Rattle.script_lang.specs.declared.plan.run_line.RunLine.{RunLine}
-use Rattle.step_table.specs.Calls.{Read, Update}
 use Rattle.replay_run.specs.Lines.{Asks, Follows, FollowsAll, StepsTimes, with_act}
 use Rattle.replay_run.specs.Rounds.{Finishes, IsOver, Round, Rounds, StepsEach}
-use Rattle.replay_run.specs.RunState.{RunState, act_of, is_busy}
-use Rattle.replay_run.specs.Settings.{PrefAsk, PrefRules, Value}
+use Rattle.replay_run.specs.RunState.{RunState, is_busy}
+use Rattle.replay_run.specs.Settings.{PrefRules, Value}
 use Rattle.replay_run.specs.Steps.{StepsAt}
 use Rattle.replay_run.specs.Typed.{IsTypedAct}
 use Rattle.replay_run.proofs.exists.TurnExists.{MustBe}
+use Rattle.replay_run.proofs.keeping.StepCases.{IsCalled}
 
 -- a line that so many clients can follow
 pub record CanFollow (clients : ℕ) (line : RunLine) : Type 0 where
@@ -28,7 +28,7 @@ pub record CanFollow (clients : ℕ) (line : RunLine) : Type 0 where
 module _ (r : PrefRules) {M : Type 0} (s : Store Value M) (Kept : RunState → Type 0)
     (step_is : (place : ℕ) (state : RunState) → place < length state.clients → Kept state → MustBe (StepsAt r s place state))
     (step_keeps : (place : ℕ) (old new : RunState) → StepsAt r s place old new → Kept old → Kept new)
-    (asking_keeps : (place : ℕ) (ask : PrefAsk) (old new : RunState) → Asks place (act_of ask) old new → IsTypedAct (act_of ask) → Kept old → Kept new) where
+    (asking_keeps : (place : ℕ) (asked : Act) (old new : RunState) → Asks place asked old new → IsCalled asked → IsTypedAct asked → Kept old → Kept new) where
   -- a state that keeps the same, with as many clients
   pub record IsOn (old new : RunState) : Type 0 where
     pub kept : Kept new
@@ -62,20 +62,21 @@ module _ (r : PrefRules) {M : Type 0} (s : Store Value M) (Kept : RunState → T
       each_is (place + 1) clients mid (omega (arith, within, many)) on.kept
       (λ new rest. none new (record { goes = (mid, goes, rest.goes); on = record { kept = rest.on.kept; many = rest.on.many ∙ on.many } })))
 
-  asks_is : (place : ℕ) (ask : PrefAsk) (old : RunState) → place < length old.clients → IsTypedAct (act_of ask) → Kept old → MustBe (Comes (Asks place (act_of ask)) old)
-  asks_is place ask old within typed kept none =
+  asks_is : (place : ℕ) (asked : Act) (old : RunState) → place < length old.clients → IsCalled asked → IsTypedAct asked → Kept old → MustBe (Comes (Asks place asked) old)
+  asks_is place asked old within has typed kept none =
       elim (slice_get_cases old.clients place).1 [
-        | inl found ↦ (let now : RunState = record old { clients = slice_set old.clients place (with_act (act_of ask) found.0) } in
-            let asks : Asks place (act_of ask) old now = record { client = found.0; was = found.2; now = refl } in
+        | inl found ↦ (let now : RunState = record old { clients = slice_set old.clients place (with_act asked found.0) } in
+            let asks : Asks place asked old now = record { client = found.0; was = found.2; now = refl } in
             none now
-            (record { goes = asks; on = record { kept = asking_keeps place ask old now asks typed kept; many = length-set old.clients place (with_act (act_of ask) found.0) } }))
+            (record { goes = asks; on = record { kept = asking_keeps place asked old now asks has typed kept; many = length-set old.clients place (with_act asked found.0) } }))
         | inr past ↦ (let less = past.0 in absurd (omega (arith, less, within)))
       ]
 
   line_is : (place : ℕ) (asked : Act) (old : RunState) → place < length old.clients → IsBuiltAct asked → IsTypedAct asked → Kept old → MustBe (Comes (Follows r s place asked) old)
   line_is place (act.Go steps) old within built typed kept = times_is place steps old within kept
-  line_is place (act.Update edit) old within built typed kept = asks_is place (Update edit) old within typed kept
-  line_is place act.Read old within built typed kept = asks_is place Read old within typed kept
+  line_is place (act.Update edit) old within built typed kept = asks_is place (act.Update edit) old within built typed kept
+  line_is place act.Read old within built typed kept = asks_is place act.Read old within built typed kept
+  line_is place (act.Restart node) old within built typed kept = asks_is place (act.Restart node) old within built typed kept
   line_is place other old within built typed kept = absurd built
 
   pub lines_is : (lines : List RunLine) (old : RunState) → All (CanFollow (length old.clients)) lines → Kept old → MustBe (Comes (FollowsAll r s lines) old)

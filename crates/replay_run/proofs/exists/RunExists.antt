@@ -1,5 +1,5 @@
 -- Each script that keeps its rules has a run.
-use Rattle.std.proofs.Common.{◌≡◌, ◌∙◌, ◌⊎◌, inl, inr, ◌<◌, ◌+◌, ◌-◌, ◌^◌, ℕ, suc, zero, List, All, [], ◌∷◌, length, flat_map, Option, Some, None, IfSome, slice_get, refl, sym, ap, subst, arith}
+use Rattle.std.proofs.Common.{◌≡◌, ◌∙◌, ◌⊎◌, inl, inr, ◌<◌, ◌+◌, ◌-◌, ◌^◌, ℕ, suc, zero, List, All, [], ◌∷◌, length, flat_map, Some, None, slice_get, refl, sym, ap, subst, arith}
 use Rattle.std.specs.List.{enumerate_from}
 use Rattle.std.proofs.lemmas.List.{length-map}
 use Rattle.std.proofs.lemmas.List.Elements.{All-append, All-cons, All-head, All-nil}
@@ -21,28 +21,26 @@ use Rattle.script_lang.specs.declared.transcripts.transcript.Transcript.{Transcr
 use Rattle.script_lang.specs.Chronicle.{Chapter, chapter_of, first_beginning, store_of, tally_of}
 use Rattle.script_lang.specs.Good.{file_seen}
 use Rattle.script_lang.specs.Keeps.{Keeps, KeepsPlan}
-use Rattle.script_lang.specs.SessionPlans.{IsWhole}
 use Rattle.script_lang.specs.TranscriptView.{SessionSeen}
 use Rattle.script_lang.proofs.GoodChapters.{one_chapter}
-use Rattle.step_table.specs.Calls.{Read, Update}
 use Rattle.replay_run.specs.Failing.{FailsWithin}
 use Rattle.replay_run.specs.Lines.{Asks, FollowsAll}
 use Rattle.replay_run.specs.PrefsBasis.{prefs_basis}
 use Rattle.replay_run.specs.Rounds.{EndsBy, Finishes, IsOver, Round, StepsEach}
-use Rattle.replay_run.specs.RunState.{Client, NodeView, RunState, act_now, act_of}
+use Rattle.replay_run.specs.RunState.{Client, NodeView, RunState, act_now}
 use Rattle.replay_run.specs.ScriptRun.{IsPlayed, Runs, lines_of}
-use Rattle.replay_run.specs.Settings.{PrefAsk, PrefRules, PrefStore, Value}
+use Rattle.replay_run.specs.Settings.{PrefRules, PrefStore, Value}
 use Rattle.replay_run.specs.Start.{new_client, start_of, world_of}
 use Rattle.replay_run.specs.Steps.{StepsAt}
 use Rattle.replay_run.specs.Typed.{AreSteps, IsTyped, IsTypedAct}
 use Rattle.replay_run.specs.WorkLeft.{RoundSoFar, work_left}
 use Rattle.replay_run.proofs.exists.ChainExists.{CanFollow, lines_is, rounds_is}
-use Rattle.replay_run.proofs.exists.ServedSteps.{RunsServed, still_served}
-use Rattle.replay_run.proofs.exists.StepExists.{IsOfAsk, client_steps}
+use Rattle.replay_run.proofs.exists.ServedSteps.{RunsServed, now_asked, still_served}
+use Rattle.replay_run.proofs.exists.StepExists.{client_steps}
 use Rattle.replay_run.proofs.exists.TurnExists.{MustBe, base_is}
 use Rattle.replay_run.proofs.keeping.Failures.{plan_fails_within}
-use Rattle.replay_run.proofs.keeping.Living.{is_living}
 use Rattle.replay_run.proofs.keeping.SameClients.{still_that}
+use Rattle.replay_run.proofs.keeping.StepCases.{IsCalled}
 use Rattle.replay_run.proofs.keeping.StepsKeep.{homes_declared, new_from}
 use Rattle.replay_run.proofs.kept.PlansKept.{ReadsValues}
 use Rattle.replay_run.proofs.kept.RunKept.{KeptState, asks_keep_main, start_keeps_main, steps_keep_main, values_of_settings}
@@ -50,21 +48,12 @@ use Rattle.replay_run.proofs.lists.SetLemmas.{found_then}
 use Rattle.replay_run.proofs.lists.SetViews.{all_found}
 use Rattle.replay_run.proofs.work.WorkLemmas.{round_begins, round_falls, round_goes_on}
 
-asks : (ask : PrefAsk) → IsOfAsk (act_of ask)
-asks (Update edit) = tt
-asks Read = tt
-
--- what it is at is among what it is asked for
-now_asked : (client : Client) (asked : Option Act) → act_now client ≡ asked → All IsOfAsk client.asked → IfSome asked IsOfAsk
-now_asked client None is all = tt
-now_asked client (Some a) is all = all_found IsOfAsk client.asked (length client.answered) a is all
-
 -- a client is asked for calls alone, and what runs of them is at a step that the table serves
 pub record IsServed (client : Client) : Type 0 where
-  pub asks : All IsOfAsk client.asked
+  pub asks : All IsCalled client.asked
   pub runs : RunsServed client
 
-module _ {M : Type 0} (r : PrefRules) (s : Store Value M) (values : ReadsValues r IsMap AreSteps s) (unplanned : s.deaths ≡ []) (unmigrated : s.migrations ≡ []) (unreplaced : s.handler ≡ None) (low : s.limits.file < 2 ^ 64 - 1) where
+module _ {M : Type 0} (r : PrefRules) (s : Store Value M) (values : ReadsValues r IsMap AreSteps s) (unmigrated : s.migrations ≡ []) (unreplaced : s.handler ≡ None) (low : s.limits.file < 2 ^ 64 - 1) where
   record Kept (state : RunState) : Type 0 where
     pub main : KeptState r s state
     pub clients : (place : ℕ) (client : Client) → slice_get state.clients place ≡ Some client → IsServed client
@@ -78,12 +67,11 @@ module _ {M : Type 0} (r : PrefRules) (s : Store Value M) (values : ReadsValues 
     where
       by_cache : (client : Client) → slice_get state.clients place ≡ Some client → ⊥
       by_cache client found =
-          let living = is_living s unplanned r state kept.main.run in
           let served = kept.clients place client found in
           let home = all_found (λ (client : Client). client.node.0 < length state.shared.caches) state.clients place client found kept.main.run.homes in
           elim (slice_get_cases state.shared.caches client.node.0).1 [
-            | inl cache ↦ client_steps r s unmigrated unreplaced low state living.alive living.deaths kept.main.run.failing.count place client found cache.0 cache.2
-                (act_now client) refl (now_asked client (act_now client) refl served.asks) served.runs none
+            | inl cache ↦ client_steps r s unmigrated unreplaced low state kept.main.run.failing.count place client found cache.0 cache.2 (act_now client) refl
+                (now_asked client (act_now client) refl served.asks) served.runs none
             | inr past ↦ (let less = past.0 in absurd (omega (arith, less, home)))
           ]
 
@@ -93,7 +81,7 @@ module _ {M : Type 0} (r : PrefRules) (s : Store Value M) (values : ReadsValues 
       let view : NodeView = record { world = old.shared.world; kept = it.kept } in
       let view_after : NodeView = record { world = new.shared.world; kept = it.kept_after } in
       record {
-        main = steps_keep_main r s values unplanned place old new it kept.main;
+        main = steps_keep_main r s values place old new it kept.main;
         clients =
             λ other c is.
             elim (found_then old.clients place other it.client_after c (rw it.now at is)) [
@@ -106,16 +94,16 @@ module _ {M : Type 0} (r : PrefRules) (s : Store Value M) (values : ReadsValues 
             ];
       }
 
-  asking_keeps : (place : ℕ) (ask : PrefAsk) (old new : RunState) → Asks place (act_of ask) old new → IsTypedAct (act_of ask) → Kept old → Kept new
-  asking_keeps place ask old new it typed kept =
+  asking_keeps : (place : ℕ) (asked : Act) (old new : RunState) → Asks place asked old new → IsCalled asked → IsTypedAct asked → Kept old → Kept new
+  asking_keeps place asked old new it has typed kept =
       let was = kept.clients place it.client it.was in
       record {
-        main = asks_keep_main r s place (act_of ask) old new it typed kept.main;
+        main = asks_keep_main r s place asked old new it typed kept.main;
         clients =
             λ other c is.
             elim (found_then old.clients place other _ c (rw it.now at is)) [
               | inl here ↦ rw here.1
-                  (record { asks = All-append IsOfAsk it.client.asked (act_of ask ∷ []) was.asks (All-cons IsOfAsk (act_of ask) [] (asks ask) (All-nil IsOfAsk)); runs = was.runs })
+                  (record { asks = All-append IsCalled it.client.asked (asked ∷ []) was.asks (All-cons IsCalled asked [] has (All-nil IsCalled)); runs = was.runs })
               | inr there ↦ kept.clients other c there.1
             ];
       }
@@ -124,15 +112,15 @@ module _ {M : Type 0} (r : PrefRules) (s : Store Value M) (values : ReadsValues 
   unfolding StepsEach
   so_far place zero start now new it kept far = rw it (let same : place + 0 ≡ place = omega arith in rw same far)
   so_far place (suc clients) start now new it kept far =
-      let one = round_goes_on r s unplanned start place now it.0 it.1 kept.main.run far in
+      let one = round_goes_on r s start place now it.0 it.1 kept.main.run far in
       let same : place + 1 + clients ≡ place + suc clients = omega arith in
       subst (λ n. RoundSoFar s.limits.file start n new) same (so_far (place + 1) clients start it.0 new it.2 (step_keeps place now it.0 it.1 kept) one)
 
   falls : (old new : RunState) → Kept old → Round r s old new → IsOver old ⊎ (work_left s.limits.file new < work_left s.limits.file old)
   falls old new kept round =
       let same : 0 + length old.clients ≡ length old.clients = omega arith in
-      round_falls r s unplanned old new kept.main.run
-      (subst (λ n. RoundSoFar s.limits.file old n new) same (so_far 0 (length old.clients) old old new round kept (round_begins r s unplanned old)))
+      round_falls r s old new kept.main.run
+      (subst (λ n. RoundSoFar s.limits.file old n new) same (so_far 0 (length old.clients) old old new round kept (round_begins r s old)))
 
   -- the end of a session
   pub record Ended (lines : List RunLine) (start end : RunState) : Type 0 where
@@ -151,9 +139,6 @@ module _ {M : Type 0} (r : PrefRules) (s : Store Value M) (values : ReadsValues 
 module _ (script : Script) (kept : Keeps script) (typed : IsTyped script) where
   abbrev plan : SessionPlan
   plan = kept.built.plan
-
-  whole : IsWhole plan
-  whole = kept.built.whole
 
   -- what is told of the session, where main reads as this base and a run ends in this state
   abbrev told_of : BaseSeen Value → RunState → SessionSeen
@@ -192,9 +177,9 @@ module _ (script : Script) (kept : Keeps script) (typed : IsTyped script) where
     kept_start : KeptState prefs_basis.rules (store base) (start base)
     kept_start = start_keeps_main prefs_basis.rules (store base) reads [] (tally_of 0 plan) script.homes refl within (homes_declared script kept.homes.declared)
 
-    ended_is : MustBe (Ended prefs_basis.rules (store base) (values_of_settings (store base) omega arith) whole.deaths refl (rw kept.built.unreplaced refl) (omega arith) plan.lines (start base))
-    ended_is = session_is prefs_basis.rules (store base) (values_of_settings (store base) omega arith) whole.deaths refl (rw kept.built.unreplaced refl) (omega arith) plan.lines (start base) (can_follow base) kept_start
-        (λ place client found. rw (new_from [] 0 script.homes place client found).is (record { asks = All-nil IsOfAsk; runs = tt }))
+    ended_is : MustBe (Ended prefs_basis.rules (store base) (values_of_settings (store base) omega arith) refl (rw kept.built.unreplaced refl) (omega arith) plan.lines (start base))
+    ended_is = session_is prefs_basis.rules (store base) (values_of_settings (store base) omega arith) refl (rw kept.built.unreplaced refl) (omega arith) plan.lines (start base) (can_follow base) kept_start
+        (λ place client found. rw (new_from [] 0 script.homes place client found).is (record { asks = All-nil IsCalled; runs = tt }))
 
   -- it cannot be that there is no run
   pub run_is : MustBe (Runs prefs_basis script)
@@ -211,12 +196,12 @@ module _ (script : Script) (kept : Keeps script) (typed : IsTyped script) where
         between = it.between;
         follows = it.follows;
         end = end;
-        ends = subst (λ stop. EndsBy prefs_basis.rules (store base) stop it.between end) (sym whole.stop) it.finishes;
+        ends = subst (λ stop. EndsBy prefs_basis.rules (store base) stop it.between end) (sym kept.built.unstopped) it.finishes;
         tells = record { answers = refl; entries = refl; file = refl };
       } in
       none transcript
       (record {
         names = refl;
         sessions = sym (ap (λ (xs : List SessionPlan). length xs) kept.built.only);
-        played = subst (λ chapters. Each (IsPlayed prefs_basis script) chapters) (sym (one_chapter prefs_basis script plan told transcript refl kept.built.only whole.stop refl)) (each_walked (IsPlayed prefs_basis script) (chapter told ∷ []) (played, tt));
+        played = subst (λ chapters. Each (IsPlayed prefs_basis script) chapters) (sym (one_chapter prefs_basis script plan told transcript refl kept.built.only kept.built.unstopped refl)) (each_walked (IsPlayed prefs_basis script) (chapter told ∷ []) (played, tt));
       })))

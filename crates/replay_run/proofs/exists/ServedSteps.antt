@@ -1,9 +1,11 @@
 -- A call that goes on is at a step that the table serves: no update comes to be served without the lock.
-use Rattle.std.proofs.Common.{◌≡◌, Bool, true, false, Option, Some, None, IfSome, refl, sym, ap}
+use Rattle.std.proofs.Common.{◌≡◌, Bool, true, false, All, Option, Some, None, IfSome, length, refl, sym, ap}
 use Rattle.store_traits.specs.declared.ids.CallId.{CallId}
 use Rattle.shelf.specs.declared.store.Store.{Store}
 use Rattle.shelf.specs.Rules.{Rules}
 use Rattle.shelf.proofs.Bools.{never}
+use Rattle.script_lang.specs.declared.plan.run_line.Act.{Act}
+use Rattle.script_lang.specs.declared.plan.run_line.Act.TheVariants as act
 use Rattle.step_table.specs.Calls.{Ask, At, Call, Read, Reading, Reply, ServeUnlocked, Update, is_gone}
 use Rattle.step_table.specs.Effects.{Effect, at_by, gave_by}
 use Rattle.step_table.specs.Rows.{Row, must_lock, waits, takes_first, takes, goes_without, loads, migrates, finishes, keeps, changes, raises, creates, appends, syncs_scratch, renames}
@@ -13,11 +15,12 @@ use Rattle.step_table.specs.declared.progress.Progress.{Progress}
 use Rattle.step_table.specs.declared.progress.Progress.TheVariants.{Ended}
 use Rattle.step_table.proofs.ChosenRows.{is_served}
 use Rattle.replay_run.specs.Answering.{behind_look}
-use Rattle.replay_run.specs.RunState.{Client, NodeView, call_now}
-use Rattle.replay_run.specs.Settings.{Change, PrefCached, PrefCall, PrefRules, Value}
+use Rattle.replay_run.specs.RunState.{Client, NodeView, act_now, call_now, first_at}
+use Rattle.replay_run.specs.Settings.{PrefCached, PrefCall, PrefRules, Value}
 use Rattle.replay_run.specs.Steps.{ClientSteps}
 use Rattle.replay_run.proofs.keeping.BehindTurns.{Behind, behind, blocked, ended, moved}
-use Rattle.replay_run.proofs.keeping.StepCases.{StepCase, looks, rests, step_case, turns}
+use Rattle.replay_run.proofs.keeping.StepCases.{IsCalled, StepCase, looks, rests, step_case, turns}
+use Rattle.replay_run.proofs.lists.SetViews.{all_found}
 
 module _ {V T : Type 0} where
   -- a call that goes on is at such a step
@@ -70,17 +73,28 @@ looked : (client : Client) (found : Option PrefCached) → RunsServed (behind_lo
 looked client (Some kept) = tt
 looked client None = refl
 
+begins_served : (asked : Act) → IsCalled asked → is_served (first_at asked) ≡ true
+begins_served (act.Update edit) has = refl
+begins_served act.Read has = refl
+begins_served (act.Restart node) has = refl
+begins_served other has = absurd has
+
 module _ (client : Client) where
-  pub call_served : (ask : Ask Change) (running : Option PrefCall) → client.running ≡ running → RunsServed client → is_served (call_now client ask).at ≡ true
-  call_served ask None is served = rw is refl
-  call_served ask (Some call) is served = rw is (let it : IfSome (Some call) (λ (call : PrefCall). is_served call.at ≡ true) = rw is at served in it)
+  pub call_served : (asked : Act) → IsCalled asked → (running : Option PrefCall) → client.running ≡ running → RunsServed client → is_served (call_now client asked).at ≡ true
+  call_served asked has None is served = rw is (begins_served asked has)
+  call_served asked has (Some call) is served = rw is (let it : IfSome (Some call) (λ (call : PrefCall). is_served call.at ≡ true) = rw is at served in it)
+
+  -- what it is at is among what it is asked for
+  pub now_asked : (asked : Option Act) → act_now client ≡ asked → All IsCalled client.asked → IfSome asked IsCalled
+  now_asked None is all = tt
+  now_asked (Some a) is all = all_found IsCalled client.asked (length client.answered) a is all
 
 module _ (r : PrefRules) {M : Type 0} (s : Store Value M) (client : Client) (view : NodeView) (after : Client) (view_after : NodeView) where
   by_case : RunsServed client → StepCase r s client view after view_after → RunsServed after
   by_case served (rests none now same) = rw now served
-  by_case served (turns ask asked turn) =
+  by_case served (turns asked has is turn) =
       behind_served (behind client turn.call_after turn.gave after turn.now)
-      (turn_served r s (record { world = view.world; call = call_now client ask; world_after = view_after.world; call_after = turn.call_after }) turn.gave turn.turn (call_served client ask client.running refl served))
+      (turn_served r s (record { world = view.world; call = call_now client asked; world_after = view_after.world; call_after = turn.call_after }) turn.gave turn.turn (call_served client asked has client.running refl served))
   by_case served (looks asked idle look) = rw look.now (looked client _)
 
   -- it stays so from step to step

@@ -1,4 +1,4 @@
--- Whatever a call is at, it has a turn in a world in which no node has died: its call of the folder fails where that is due, and leaves all that the folder holds.
+-- Whatever a call is at, it has a turn: a death of its node ends it, one that is planned strikes, and else its call of the folder fails where that is due, and leaves all that the folder holds.
 use Rattle.std.proofs.Common.{◌≡◌, ◌∙◌, ◌<◌, ◌≤◌, ◌-◌, ◌^◌, ℕ, nat_le, nat_lt, Bool, true, false, List, [], length, Option, Some, None, option_map, unwrap_or, refl, sym, arith, if◌then◌else◌}
 use Rattle.std.proofs.lemmas.Bool.Decides.{nat_tests}
 use Rattle.store_traits.specs.declared.applied.Applied.{Applied}
@@ -8,21 +8,22 @@ use Rattle.store_traits.specs.declared.update_error.UpdateError.TheVariants.{NoM
 use Rattle.folder_disk.specs.Due as plan
 use Rattle.hist_journal.specs.declared.seen.BaseSeen.{BaseSeen}
 use Rattle.hist_journal.specs.declared.seen.BaseSeen.TheVariants.{Held, Corrupt, TooLong}
-use Rattle.hist_journal.specs.Nodes.{is_ready}
+use Rattle.hist_journal.specs.Nodes.{is_dead, is_ready}
 use Rattle.shelf.specs.declared.store.Store.{Store}
 use Rattle.shelf.specs.Base.{ReadsAs}
 use Rattle.shelf.specs.Rules.{Rules}
 use Rattle.shelf.proofs.Bools.{never}
-use Rattle.step_table.specs.Calls.{Ask, Update, Read, At, Call, First, Reading, Migrating, Finishing, Raising, Writing, SyncingFolder, Kept, Failed, Gone, Purpose, Initialise, Serve, ServeUnlocked, Stage, Creating, Appending, SyncingScratch, Renaming, is_gone}
-use Rattle.step_table.specs.Effects.{Effect, Ends, Faulted, FolderUse, Next, Served, SparesFolder, Unused, errs, gave_by, goes}
+use Rattle.step_table.specs.Calls.{Ask, Update, Read, At, Call, First, Reading, Migrating, Finishing, Raising, Writing, SyncingFolder, Kept, Failed, Restarting, Gone, Purpose, Initialise, Serve, ServeUnlocked, Stage, Creating, Appending, SyncingScratch, Renaming, is_gone}
+use Rattle.step_table.specs.Effects.{Ceases, Effect, Ends, Faulted, FolderUse, Next, Served, SparesFolder, Unused, does, errs, gave_by, goes}
 use Rattle.step_table.specs.Requests.{Create, ReadMain, Rename, Request, SyncFolder, SyncScratch, call_of}
 use Rattle.step_table.specs.Rows.{request_of}
-use Rattle.step_table.specs.Turn.{AllowedBy, Turn, dies_now, has_died_by}
-use Rattle.step_table.specs.World.{World, Turned, begin}
+use Rattle.step_table.specs.Turn.{AllowedBy, Turn, dies_now, dying, has_died_by}
+use Rattle.step_table.specs.World.{World, Turned}
 use Rattle.step_table.proofs.Chosen.{IsSame, IsSameFor, Luck, Meets, apply, chosen, enter, has_to_lock, is_open, is_other, length_of, meet, take, unwritten, use_base, write}
 use Rattle.step_table.proofs.ChosenRows.{chosen_row, is_served, split}
 use Rattle.step_table.proofs.Choosing.{Reads}
-use Rattle.step_table.proofs.EffectsMade.{comes_by, is_as_due, now_by, turn_to, turned_by}
+use Rattle.step_table.proofs.DeathTurns.{dead_turn, dying_turn}
+use Rattle.step_table.proofs.EffectsMade.{begun, comes_by, is_as_due, now_by, turn_to, turned_by}
 use Rattle.step_table.proofs.OneTurn.{asked_at}
 
 -- it cannot be that none is there
@@ -34,10 +35,6 @@ module _ {V T : Type 0} where
   abbrev pub is_answer : Next V T → Bool
   is_answer (Ends (Failed NoMemory)) = false
   is_answer other = true
-
--- the call as its turn begins
-abbrev pub begun : {V T : Type 0} → World V T → Call V T → Call V T
-begun w call = (begin (turn_to w call w)).call
 
 module _ {V T M : Type 0} (r : Rules V T) (s : Store V M) (w : World V T) where
   pub base_is : (main : Option (List ℕ)) → MustBe (ReadsAs r.reads r.absent s.limits.file main)
@@ -134,7 +131,8 @@ module _ {V T M : Type 0} (r : Rules V T) (s : Store V M) (w : World V T) where
     fine (Raising p) due = (refl, refl)
     fine (Writing stage p) due = split IsFine luck.fails _ _ (λ ill. (refl, fails_so (request_of stage p) (sym due ∙ ill))) (λ well. writes stage p (sym due ∙ well))
     fine (SyncingFolder ending) due = split IsFine luck.fails _ _ (λ ill. (refl, fails_so SyncFolder (sym due ∙ ill))) (λ well. (refl, goes_well SyncFolder (sym due ∙ well)))
-    fine other due = (refl, refl)
+    fine (Restarting node) due = split IsFine (is_dead node w.history) _ _ (λ dead. (refl, refl)) (λ alive. (refl, refl))
+    fine Gone due = (refl, refl)
 
   -- a call that fails leaves all that the folder holds
   spares_by : (call : Call V T) (e : Effect V T) (used : FolderUse) → SparesFolder used w (now_by w call (record e { folder = used }))
@@ -157,8 +155,15 @@ module _ {V T M : Type 0} (r : Rules V T) (s : Store V M) (w : World V T) where
     allowed : (gone died dies : Bool) (t : Turned V T) (e : Effect V T) → gone ≡ false → died ≡ false → dies ≡ false → AllowedBy r s false false false t e → AllowedBy r s gone died dies t e
     allowed gone died dies t e first second third it = rw (first, second, third) it
 
-    pub turn_is : has_died_by (turn_to w (begun w call) w) ≡ false → dies_now (turn_to w (begun w call) w) ≡ false → MustBe Turns
-    turn_is lives spared nothing =
+    lasts : is_gone call.at ≡ false
+    lasts = goes_on call.at served
+
+    -- the turn of a call whose node died, of one that dies now, and of one that lives
+    turn_by : (died dies : Bool) → has_died_by (turn_to w (begun w call) w) ≡ died → dies_now (turn_to w (begun w call) w) ≡ dies → MustBe Turns
+    turn_by true dies died is nothing = let it = dead_turn r s w call lasts died in nothing (does (Ceases it.0)) (record { turn = it.2.turn; same = it.2.same; answers = refl; spares = tt })
+    turn_by false true lives strikes nothing =
+        let it = dying_turn r s w call lasts lives strikes in nothing (dying (turn_to w (begun w call) w)) (record { turn = it.turn; same = it.same; answers = refl; spares = tt })
+    turn_by false false lives spared nothing =
         met_is call.id call.at
         (λ luck met.
         let e : Effect V T = chosen r s.limits w call.id luck call.at in
@@ -168,7 +173,7 @@ module _ {V T M : Type 0} (r : Rules V T) (s : Store V M) (w : World V T) where
           turn =
               record {
                 effect = e;
-                allowed = allowed (is_gone call.at) (has_died_by (turn_to w (begun w call) w)) (dies_now (turn_to w (begun w call) w)) (turned_by w (begun w call) e) e (goes_on call.at served) lives spared
+                allowed = allowed (is_gone call.at) (has_died_by (turn_to w (begun w call) w)) (dies_now (turn_to w (begun w call) w)) (turned_by w (begun w call) e) e lasts lives spared
                     (chosen_row r s w call.id luck low none (λ is. unreplaced) call.at served met.meets);
                 comes = comes_by w (begun w call) e.folder e fits.1;
               };
@@ -176,3 +181,6 @@ module _ {V T M : Type 0} (r : Rules V T) (s : Store V M) (w : World V T) where
           answers = fits.0;
           spares = spares_by (begun w call) e e.folder;
         }))
+
+    pub turn_is : MustBe Turns
+    turn_is = turn_by (has_died_by (turn_to w (begun w call) w)) (dies_now (turn_to w (begun w call) w)) refl refl

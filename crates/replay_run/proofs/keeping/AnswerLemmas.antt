@@ -29,11 +29,13 @@ use Rattle.shelf.proofs.MeanwhileLemmas as meanwhile
 use Rattle.script_lang.specs.AnswerForms.{read_error, update_error}
 use Rattle.script_lang.specs.Shown.{edition_up_to, shown_by, shown_to}
 use Rattle.script_lang.specs.GoodReads.{HasValue}
+use Rattle.script_lang.specs.GoodUpdates.{is_restart}
 use Rattle.script_lang.specs.declared.plan.run_line.Act.{Act}
 use Rattle.script_lang.specs.declared.plan.run_line.Act.TheVariants as act
 use Rattle.replay_run.specs.ClientInvariant.{IsExplained, IsTrueAnswer}
 use Rattle.replay_run.specs.RunState.{Client, call_at}
 use Rattle.replay_run.specs.Settings.{Change, PrefRules, Value}
+use Rattle.replay_run.proofs.keeping.LaterLists.{alive_more, only_more, spares_more}
 use Rattle.replay_run.proofs.keeping.OwnEdits.{carries_more}
 use Rattle.replay_run.proofs.lists.JoinedLemmas.{all_each}
 use Rattle.replay_run.proofs.lists.StandLemmas.{found_stands}
@@ -115,6 +117,10 @@ module _ (r : PrefRules) {M : Type 0} (s : Store Value M) where
     explained_within act.Read (seen.Unchanged edition) it = absurd it
     explained_within act.Read (seen.Restarted place) it = absurd it
     explained_within act.Read other it = omega arith
+    explained_within (act.Restart node) (seen.Restarted place) it = up_to_within place list
+    explained_within (act.Restart node) seen.NotDead it = omega arith
+    explained_within (act.Restart node) (seen.Died place) it = omega arith
+    explained_within (act.Restart node) other it = absurd it
     explained_within other answer it = absurd it
 
     module _ (more : List PrefEntry) where
@@ -134,6 +140,10 @@ module _ (r : PrefRules) {M : Type 0} (s : Store Value M) where
       shown_more act.Read (seen.LegacyFault place) it = up_to_more it.before it.behind it.entry place list more it.is it.counted
       shown_more act.Read (seen.Restarted place) it = absurd it
       shown_more act.Read other it = refl
+      shown_more (act.Restart node) (seen.Restarted place) it = let restart = it.restart in up_to_more restart.before restart.behind restart.entry place list more restart.is restart.counted
+      shown_more (act.Restart node) seen.NotDead it = refl
+      shown_more (act.Restart node) (seen.Died place) it = refl
+      shown_more (act.Restart node) other it = absurd it
       shown_more other answer it = absurd it
 
       module _ (over : list_any (is_up_to call) more ≡ false) where
@@ -150,6 +160,10 @@ module _ (r : PrefRules) {M : Type 0} (s : Store Value M) where
         explained_more (act.Update edit) other it = error_more edit (update_error other) it
         explained_more act.Read (seen.Read edition value) it = HasFront-more (HasValue r s edition value) list more it
         explained_more act.Read other it = read_error_more (read_error other) it
+        explained_more (act.Restart node) (seen.Restarted place) it = only_more call node list more place (none_up_to call more over) it
+        explained_more (act.Restart node) seen.NotDead it = alive_more call node list more over it
+        explained_more (act.Restart node) (seen.Died place) it = HasReadCause-more r s call list more over shown (read.Died place) it
+        explained_more (act.Restart node) other it = absurd it
         explained_more other answer it = absurd it
 
   module _ (client : Client) (list : List PrefEntry) where
@@ -188,6 +202,8 @@ module _ (r : PrefRules) {M : Type 0} (s : Store Value M) where
           late = rw same it.late;
           none = λ out. meanwhile.own is_update line.call list more (none_up_to line.call more over) ∙ it.none out;
           carried = carries_more line.call it.act list more (none_up_to line.call more over) it.carried;
+          restarts = λ out. meanwhile.own is_restart line.call list more (none_up_to line.call more over) ∙ it.restarts out;
+          spared = spares_more s.deaths line.call list more (none_up_to line.call more over) line.answer it.spared;
         }
 
     -- the answers stay true where no entry more is of a call up to them
@@ -213,4 +229,6 @@ module _ (r : PrefRules) {M : Type 0} (s : Store Value M) where
         late = rw same_id here.late;
         none = here.none;
         carried = here.carried;
+        restarts = here.restarts;
+        spared = here.spared;
       }

@@ -4,9 +4,10 @@ use Rattle.store_traits.specs.declared.ids.CallId.{CallId}
 use Rattle.prefs_text.specs.declared.seen.AnswerLineSeen.{AnswerLineSeen}
 use Rattle.prefs_text.specs.declared.seen.AnswerSeen.{AnswerSeen}
 use Rattle.prefs_text.specs.declared.seen.AnswerSeen.TheVariants as seen
-use Rattle.step_table.specs.Calls.{Read, Reply}
+use Rattle.step_table.specs.Calls.{Reply}
 use Rattle.step_table.specs.declared.progress.Progress.{Progress}
 use Rattle.step_table.specs.declared.progress.Progress.TheVariants.{Moved, Blocked, Ended}
+use Rattle.script_lang.specs.declared.plan.run_line.Act.TheVariants as act
 use Rattle.replay_run.specs.Answering.{behind_look, behind_turn, client_answered, reply_told}
 use Rattle.replay_run.specs.RunInvariant.{begun}
 use Rattle.replay_run.specs.RunState.{Client, new_call}
@@ -60,4 +61,4 @@ behind_same {client} {call} gave now (ended {answer = answer} tells) =
 pub look_same : (client : Client) (found : Option PrefCached) → IsSameClient client (behind_look client found)
 look_same client None = record { id = refl; node = refl; earlier = refl; asked = refl; begun = refl }
 look_same client (Some kept) =
-    record { id = refl; node = refl; earlier = refl; asked = refl; begun = let more = length-append client.answered (line_of (new_call client Read).id (seen.Read kept.edition kept.value) ∷ []) in omega (arith, more) }
+    record { id = refl; node = refl; earlier = refl; asked = refl; begun = let more = length-append client.answered (line_of (new_call client act.Read).id (seen.Read kept.edition kept.value) ∷ []) in omega (arith, more) }

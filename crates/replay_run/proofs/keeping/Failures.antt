@@ -10,6 +10,7 @@ use Rattle.folder_disk.specs.declared.call.CallCounts.{CallCounts}
 use Rattle.folder_disk.specs.declared.call.FolderCall.{FolderCall}
 use Rattle.folder_disk.specs.declared.call.Planned.{Planned}
 use Rattle.folder_disk.specs.Due.{burned, count_of, counted, in_order, is_blown, is_planned, kind_of}
+use Rattle.folder_disk.specs.FuseFolder.{with_fuse}
 use Rattle.folder_disk.specs.Planned.{left_to_strike, no_calls}
 use Rattle.folder_disk.specs.Tally.{AsDue, Tally, most_of, most_with}
 use Rattle.folder_disk.proofs.OrderLemmas.{All-in_order}
@@ -23,12 +24,12 @@ use Rattle.step_table.specs.Effects.{Effect, FolderUse, Unused, Served, Faulted,
 use Rattle.step_table.specs.Requests.{call_of}
 use Rattle.step_table.specs.World.{Turned}
 use Rattle.step_table.proofs.Applying.{entries_of}
-use Rattle.script_lang.specs.Chronicle.{due_of, fuses_of, tally_of}
+use Rattle.script_lang.specs.Chronicle.{due_of, tally_of}
 use Rattle.script_lang.specs.Keeps.{KeepsFault}
 use Rattle.script_lang.specs.declared.plan.session_plan.SessionPlan.{SessionPlan}
 use Rattle.replay_run.specs.Failing.{FailsWithin}
 use Rattle.replay_run.specs.Settings.{Change, Value}
-use Rattle.replay_run.proofs.keeping.Living.{is_folder_fault}
+use Rattle.replay_run.proofs.keeping.Deaths.{is_folder_fault}
 use Rattle.replay_run.proofs.keeping.OwnTurns.{kinds_of}
 
 abbrev IsNumber : Planned → Type 0
@@ -133,6 +134,6 @@ module _ {M : Type 0} (s : Store Value M) where
         count = fits;
       }
     where
-      by_fuse : (fuse : Option ℕ) → IfSome (most_with (min (s.folder.count + length (in_order plan.folder_faults)) (2 ^ 64 - 1)) (fuses_of fuse)) (λ most. min (s.folder.count + left_to_strike no_calls (in_order plan.folder_faults)) (2 ^ 64 - 1) ≤ most)
+      by_fuse : (fuse : Option ℕ) → IfSome (most_with (min (s.folder.count + length (in_order plan.folder_faults)) (2 ^ 64 - 1)) (with_fuse fuse [])) (λ most. min (s.folder.count + left_to_strike no_calls (in_order plan.folder_faults)) (2 ^ 64 - 1) ≤ most)
       by_fuse None = let left = left_at_most no_calls (in_order plan.folder_faults) in omega (arith, left)
       by_fuse (Some left) = tt

@@ -3,12 +3,12 @@ use Rattle.std.proofs.Common.{◌≡◌, ◌∙◌, inl, inr, ◌≤◌, ℕ, Li
 use Rattle.std.proofs.lemmas.Option.{IfSome_then}
 use Rattle.hist_journal.specs.Folds.{edition_of, raises_of}
 use Rattle.prefs_text.specs.declared.seen.AnswerSeen.TheVariants as seen
+use Rattle.script_lang.specs.GoodUpdates.{is_restart}
 use Rattle.script_lang.specs.declared.plan.run_line.Act.TheVariants as act
 use Rattle.shelf.specs.declared.store.Store.{Store}
 use Rattle.shelf.specs.Entries.{is_update}
 use Rattle.shelf.proofs.EachLemmas.{each_push}
 use Rattle.step_table.specs.Caching.{found}
-use Rattle.step_table.specs.Calls.{Read}
 use Rattle.step_table.proofs.Publishing.{found_is_kept}
 use Rattle.value_cache.specs.Truth.{IsOfPrefix}
 use Rattle.replay_run.specs.Answering.{behind_look}
@@ -18,7 +18,7 @@ use Rattle.replay_run.specs.RunState.{Client, RunState, act_now, call_at, new_ca
 use Rattle.replay_run.specs.Settings.{PrefCached, PrefRules, PrefWorld, Value}
 use Rattle.replay_run.proofs.keeping.AnswerLemmas.{answers_same, shown_within}
 use Rattle.replay_run.proofs.keeping.BehindTurns.{IsSameClient, line_of, look_same}
-use Rattle.replay_run.proofs.keeping.CallKept.{new_knows, none_own}
+use Rattle.replay_run.proofs.keeping.CallKept.{call_same, new_kept, none_own}
 use Rattle.replay_run.proofs.keeping.OwnEdits.{none_carry}
 use Rattle.replay_run.proofs.keeping.ReplacedClient.{entries_on, homes_on, owner_apart}
 use Rattle.replay_run.proofs.lists.OptionLemmas.{nothing, one_of_it}
@@ -51,7 +51,7 @@ module _ (r : PrefRules) {M : Type 0} (s : Store Value M) (state : RunState) (pl
       (well.fresh it.front it.back it.is it.of.quiet raised).1 ∙ sym it.of.edition
 
   -- the answer tells the value of that prefix
-  true_found : (one : PrefCached) → found kept w.version ≡ Some one → IsTrueAnswer r s w.history client client.answered (line_of (new_call client Read).id (seen.Read one.edition one.value))
+  true_found : (one : PrefCached) → found kept w.version ≡ Some one → IsTrueAnswer r s w.history client client.answered (line_of (new_call client act.Read).id (seen.Read one.edition one.value))
   true_found one is =
       let it = of_found one (found_is_kept kept w.version one is).0 in
       let none = none_own state.clients place client at_place mine.id idle is_update w.history keeps.entries in
@@ -63,6 +63,8 @@ module _ (r : PrefRules) {M : Type 0} (s : Store Value M) (state : RunState) (pl
         explained = record { front = it.front; back = it.back; is = it.is; holds = record { reached = sym it.of.edition; value = it.of.value } };
         late = rw (← found_late one is) (shown_within r s client w.history client.answered mine.answers);
         none = λ out. none;
+        restarts = λ out. none_own state.clients place client at_place mine.id idle is_restart w.history keeps.entries;
+        spared = tt;
         carried = none_carry (call_at client (length client.answered)) act.Read w.history none;
       }
 
@@ -70,11 +72,11 @@ module _ (r : PrefRules) {M : Type 0} (s : Store Value M) (state : RunState) (pl
   client_behind None is =
       record {
         id = mine.id;
-        running = record { ask = Read; asked = asked; id = refl; is_for = refl; knows = new_knows state.clients place client at_place mine.id idle r s Read w keeps.entries; goes_on = refl };
+        running = call_same r s client (behind_look client None) w (new_call client act.Read) refl (λ asked is. is) (new_kept state.clients place client at_place mine.id idle r s act.Read asked w keeps.entries keeps.living tt);
         answers = answers_same r s client (behind_look client None) w.history client.answered refl refl refl (λ nth a is. is) mine.answers;
       }
   client_behind (Some one) is =
-      let line = line_of (new_call client Read).id (seen.Read one.edition one.value) in
+      let line = line_of (new_call client act.Read).id (seen.Read one.edition one.value) in
       record {
         id = mine.id;
         running = tt;
@@ -103,14 +105,16 @@ module _ (r : PrefRules) {M : Type 0} (s : Store Value M) (state : RunState) (pl
           owner =
               IfSome_then w.owner keeps.owner
               (λ id it.
-              owner_apart state.clients place client now at_place id it
+              owner_apart state.clients place client now at_place w.history w.history id it
               (λ here.
               let same_client : it.client ≡ client = one_of_it (slice_get state.clients place) it.client client (rw (← here) it.found) at_place in
-              nothing it.call (sym idle ∙ (ap (λ (c : Client). c.running) (sym same_client) ∙ it.runs))));
+              nothing it.call (sym idle ∙ (ap (λ (c : Client). c.running) (sym same_client) ∙ it.runs))) it.lives);
           faults = keeps.faults;
           failing = keeps.failing;
+          living = keeps.living;
           deaths = keeps.deaths;
           left = keeps.left;
+          used = keeps.used;
           built = keeps.built;
           quiet = keeps.quiet;
           version = keeps.version;

@@ -4,6 +4,7 @@ use Rattle.std.proofs.lemmas.Bool.{eq-eqb, eqb-true}
 use Rattle.std.proofs.lemmas.List.Elements.{All-weaker}
 use Rattle.store_traits.specs.declared.ids.CallId.{CallId}
 use Rattle.prefs_text.specs.EntryText.{PrefEntry}
+use Rattle.shelf.specs.Deaths.{has_died}
 use Rattle.shelf.proofs.Bools.{never}
 use Rattle.replay_run.specs.RunInvariant.{HasOwner, IsOfCall, begun}
 use Rattle.replay_run.specs.RunState.{Client, call_at}
@@ -39,18 +40,18 @@ module _ (clients : List Client) (place : ℕ) (client now : Client) (found : sl
       let here = all_found (λ client. client.node.0 < caches) clients place client found all in
       all_set (λ client. client.node.0 < caches) clients place now (rw same here) (λ other c apart is. all_found (λ client. client.node.0 < caches) clients other c is all)
 
-  -- an owner at another place is one still
-  pub owner_apart : (owner : CallId) → (it : HasOwner clients owner) → (it.place ≡ place → ⊥) → HasOwner replaced owner
-  owner_apart owner it apart =
-      record { place = it.place; client = it.client; call = it.call; found = others_found clients place it.place now apart ∙ it.found; runs = it.runs; own = it.own; holds = it.holds }
+  -- an owner at another place is one still, where its node has not died since
+  pub owner_apart : (list list_after : List PrefEntry) (owner : CallId) → (it : HasOwner clients list owner) → (it.place ≡ place → ⊥) → has_died it.call.id.node it.call.since list_after ≡ false → HasOwner replaced list_after owner
+  owner_apart list list_after owner it apart lives =
+      record { place = it.place; client = it.client; call = it.call; found = others_found clients place it.place now apart ∙ it.found; runs = it.runs; own = it.own; holds = it.holds; lives = lives }
 
   -- and each is where the client has the same call
-  pub owner_stays : now.running ≡ client.running → (owner : CallId) → HasOwner clients owner → HasOwner replaced owner
-  owner_stays same owner it = by_place (it.place == place) refl
+  pub owner_stays : now.running ≡ client.running → (list : List PrefEntry) (owner : CallId) → HasOwner clients list owner → HasOwner replaced list owner
+  owner_stays same list owner it = by_place (it.place == place) refl
     where
-      by_place : (b : Bool) → (it.place == place) ≡ b → HasOwner replaced owner
+      by_place : (b : Bool) → (it.place == place) ≡ b → HasOwner replaced list owner
       by_place true is =
           let here : it.place ≡ place = eqb-true it.place place is in
           let is_client : client ≡ it.client = one_of_it (slice_get clients place) client it.client found (rw (← here) it.found) in
-          record { place = place; client = now; call = it.call; found = set_found clients place now client found; runs = same ∙ (ap (λ (c : Client). c.running) is_client ∙ it.runs); own = it.own; holds = it.holds }
-      by_place false is = owner_apart owner it (λ same. never (sym is ∙ eq-eqb it.place place same))
+          record { place = place; client = now; call = it.call; found = set_found clients place now client found; runs = same ∙ (ap (λ (c : Client). c.running) is_client ∙ it.runs); own = it.own; holds = it.holds; lives = it.lives }
+      by_place false is = owner_apart list list owner it (λ same. never (sym is ∙ eq-eqb it.place place same)) it.lives

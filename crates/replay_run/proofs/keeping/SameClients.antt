@@ -21,10 +21,10 @@ looked client None = record { id = refl; node = refl; earlier = refl; asked = re
 module _ (r : PrefRules) {M : Type 0} (s : Store Value M) (client : Client) (view : NodeView) (after : Client) (view_after : NodeView) where
   by_case : StepCase r s client view after view_after → IsStillThat client after
   by_case (rests none now same) = rw now (record { id = refl; node = refl; earlier = refl; asked = refl })
-  by_case (turns ask asked turn) =
+  by_case (turns asked called at_it turn) =
       let same = behind_same turn.gave after (behind client turn.call_after turn.gave after turn.now) in
       record { id = same.id; node = same.node; earlier = same.earlier; asked = same.asked }
-  by_case (looks asked idle look) = rw look.now (looked client _)
+  by_case (looks at_it idle look) = rw look.now (looked client _)
 
   pub still_that : ClientSteps r s client view after view_after → IsStillThat client after
   still_that steps = by_case (step_case r s client view after view_after steps)

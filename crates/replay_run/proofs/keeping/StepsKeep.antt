@@ -1,5 +1,5 @@
 -- What a run keeps: at the start, with each step of a client, and when nobody has anything to do.
-use Rattle.std.proofs.Common.{◌≡◌, ◌∙◌, ◌+◌, ◌<◌, All, get_or, ℕ, suc, zero, false, List, [], ◌∷◌, length, map, Option, Some, None, IfSome, is_some, slice_get, slice_set, refl, sym, ap, subst, arith}
+use Rattle.std.proofs.Common.{◌≡◌, ◌∙◌, inl, ◌+◌, ◌<◌, All, get_or, ℕ, suc, zero, false, List, [], ◌∷◌, length, map, Option, Some, None, IfSome, is_some, slice_get, slice_set, refl, sym, ap, subst, arith}
 use Rattle.std.specs.List.{enumerate_from}
 use Rattle.std.proofs.lemmas.List.{length-map}
 use Rattle.std.proofs.lemmas.List.Elements.{All-contains_itself, All-map, All-nil}
@@ -18,17 +18,19 @@ use Rattle.script_lang.specs.Asked.{Asked}
 use Rattle.script_lang.specs.Chronicle.{nodes_of}
 use Rattle.script_lang.specs.declared.plan.script.Script.{Script}
 use Rattle.script_lang.specs.declared.plan.run_line.Act.{Act}
+use Rattle.script_lang.specs.declared.plan.run_line.Act.TheVariants as act
 use Rattle.replay_run.specs.ClientInvariant.{CallInvariant, ClientInvariant}
 use Rattle.replay_run.specs.Failing.{FailsWithin}
 use Rattle.replay_run.specs.Rounds.{IsOver}
 use Rattle.replay_run.specs.RunInvariant.{IsOfCall, ReadsWell, RunInvariant}
-use Rattle.replay_run.specs.RunState.{Client, NodeView, RunState, act_now, act_of, is_busy}
+use Rattle.replay_run.specs.RunState.{Client, NodeView, RunState, act_now, call_now, is_busy}
 use Rattle.replay_run.specs.Settings.{PrefCached, PrefCall, PrefRules, PrefWorld, Value}
 use Rattle.replay_run.specs.Start.{new_client, new_clients, start_of, world_of}
-use Rattle.replay_run.specs.Steps.{StepsAt}
+use Rattle.replay_run.specs.Steps.{StepsAt, TakesTurn, brought_back, emptied}
 use Rattle.replay_run.proofs.keeping.AnswerLemmas.{answered_within}
+use Rattle.replay_run.proofs.keeping.ClientTurns.{ClientTurn}
 use Rattle.replay_run.proofs.keeping.LookKeeps.{look_keeps}
-use Rattle.replay_run.proofs.keeping.StepCases.{StepCase, looks, rests, step_case, turns}
+use Rattle.replay_run.proofs.keeping.StepCases.{IsCalled, StepCase, looks, rests, step_case, turns}
 use Rattle.replay_run.proofs.keeping.TurnKeeps.{turn_keeps}
 use Rattle.replay_run.proofs.lists.OptionLemmas.{none_at, none_past, nothing, one_of}
 use Rattle.replay_run.proofs.lists.SetLemmas.{set_same}
@@ -59,6 +61,16 @@ starts_begin s tally counted =
 pub homes_declared : (script : Script) → All (λ home. home.0 < length script.names.nodes) script.homes → All (λ home. home.0 < length (nodes_of script)) script.homes
 homes_declared script declared = rw (length-map, length-enumerate_from) declared
 
+abbrev pub IsNoRestart : Option Act → Type 0
+IsNoRestart (Some (act.Restart node)) = ⊥
+IsNoRestart other = Unit {0}
+
+-- whoever is not at a restart brings no node back
+pub none_back : (client now : Client) (asked : Option Act) → act_now client ≡ asked → IsNoRestart asked → brought_back client now ≡ None
+none_back client now None is none = rw is refl
+none_back client now (Some (act.Restart node)) is none = absurd none
+none_back client now (Some other) is none = rw is refl
+
 module _ (r : PrefRules) {M : Type 0} (s : Store Value M) where
   pub start_keeps : (before : List Asked) (tally : Tally) (homes : List NodeId) → tally.count ≡ s.folder.count → FailsWithin s tally → All (λ home. home.0 < length s.nodes) homes → RunInvariant r s (start_of before tally s homes)
   unfolding pending raises_of
@@ -69,8 +81,10 @@ module _ (r : PrefRules) {M : Type 0} (s : Store Value M) where
         owner = tt;
         faults = let fits = failing.count in omega (arith, counted, fits);
         failing = failing;
+        living = λ front e behind is. absurd (nothing_stands_in_none front behind e is);
         deaths = λ front e behind is. absurd (nothing_stands_in_none front behind e is);
         left = All-contains_itself s.deaths;
+        used = λ death planned. inl planned;
         built = refl;
         quiet = λ call is. nothing call is;
         version = refl;
@@ -90,7 +104,7 @@ module _ (r : PrefRules) {M : Type 0} (s : Store Value M) where
             answers = λ front line behind is. absurd (nothing_stands_in_none front behind line is);
           })
 
-  module _ (unplanned : s.deaths ≡ []) (place : ℕ) (old new : RunState) (it : StepsAt r s place old new) (well : ReadsWell r s old.shared.world) (keeps : RunInvariant r s old) where
+  module _ (place : ℕ) (old new : RunState) (it : StepsAt r s place old new) (well : ReadsWell r s old.shared.world) (keeps : RunInvariant r s old) where
     abbrev w_after : PrefWorld
     w_after = new.shared.world
 
@@ -100,21 +114,42 @@ module _ (r : PrefRules) {M : Type 0} (s : Store Value M) where
     abbrev view_after : NodeView
     view_after = record { world = w_after; kept = it.kept_after }
 
-    abbrev caches_after : Option PrefCached → List (Option PrefCached)
-    caches_after kept = slice_set old.shared.caches it.client.node.0 kept
+    abbrev caches_after : Client → Option PrefCached → List (Option PrefCached)
+    caches_after client kept = emptied (brought_back it.client client) (slice_set old.shared.caches it.client.node.0 kept)
 
     abbrev Now : PrefWorld → List (Option PrefCached) → Client → Type 0
     Now w caches client = RunInvariant r s (record { shared = record { world = w; caches = caches }; clients = slice_set old.clients place client })
 
-    -- the world and the caches are as they were
-    same_view : (client : Client) → view_after ≡ view → Now old.shared.world old.shared.caches client → Now w_after (caches_after it.kept_after) client
-    same_view client same kept =
-        rw (ap (λ (v : NodeView). v.world) same, ap (λ (v : NodeView). v.kept) same, set_same old.shared.caches it.client.node.0 it.kept it.cache) kept
+    -- no node was brought back, and the world and the caches are as they were
+    same_view : (client : Client) → brought_back it.client client ≡ None → view_after ≡ view → Now old.shared.world old.shared.caches client → Now w_after (caches_after client it.kept_after) client
+    same_view client none same kept =
+        rw (none, ap (λ (v : NodeView). v.world) same, ap (λ (v : NodeView). v.kept) same, set_same old.shared.caches it.client.node.0 it.kept it.cache) kept
 
-    by_case : StepCase r s it.client view it.client_after view_after → Now w_after (caches_after it.kept_after) it.client_after
-    by_case (rests none client same) = same_view it.client_after same (rw (client, set_same old.clients place it.client it.was) keeps)
-    by_case (turns ask asked turn) = turn_keeps r s unplanned old place it.client it.client_after it.kept it.kept_after w_after ask it.was it.cache asked turn keeps well
-    by_case (looks asked idle look) = same_view it.client_after look.same (rw look.now (look_keeps r s old place it.client it.kept it.was it.cache asked idle keeps well))
+    -- the turn that it takes, if it takes one
+    abbrev pub taken : (asked : Act) → IsCalled asked → act_now it.client ≡ Some asked → TakesTurn r s (call_now it.client asked) it.client view it.client_after view_after → ClientTurn r s old
+    taken asked called at_it turn =
+        record {
+          place = place;
+          client = it.client;
+          now = it.client_after;
+          cached = it.kept;
+          cached_after = it.kept_after;
+          w_after = w_after;
+          asked = asked;
+          called = called;
+          found = it.was;
+          cache = it.cache;
+          at_it = at_it;
+          takes = turn;
+          keeps = keeps;
+          well = well;
+        }
+
+    by_case : StepCase r s it.client view it.client_after view_after → Now w_after (caches_after it.client_after it.kept_after) it.client_after
+    by_case (rests none client same) = same_view it.client_after (none_back it.client it.client_after None none tt) same (rw (client, set_same old.clients place it.client it.was) keeps)
+    by_case (turns asked called at_it turn) = turn_keeps (taken asked called at_it turn)
+    by_case (looks at_it idle look) =
+        same_view it.client_after (none_back it.client it.client_after (Some act.Read) at_it tt) look.same (rw look.now (look_keeps r s old place it.client it.kept it.was it.cache at_it idle keeps well))
 
     -- the state keeps this from step to step
     pub steps_keep : RunInvariant r s new
@@ -131,7 +166,7 @@ module _ (r : PrefRules) {M : Type 0} (s : Store Value M) where
 
       by_running : (running : Option PrefCall) → IfSome running (CallInvariant r s client state.shared.world) → act_now client ≡ None → running ≡ None
       by_running None it none = refl
-      by_running (Some call) it none = nothing (act_of it.ask) (sym none ∙ it.asked)
+      by_running (Some call) it none = nothing it.asked (sym none ∙ it.at_it)
 
       by_act : (asked : Option Act) → act_now client ≡ asked → is_some asked ≡ false → (client.running ≡ None) × (length client.answered ≡ length client.asked)
       by_act None none idle =

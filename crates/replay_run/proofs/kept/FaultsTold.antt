@@ -13,14 +13,14 @@ use Rattle.shelf.proofs.Bools.{none_in_both}
 use Rattle.step_table.specs.Calls.{At, Changed, Kept, Reply}
 use Rattle.step_table.specs.Effects.{Effect, FolderUse, Unused, Served, Faulted, Uses, left_by}
 use Rattle.step_table.specs.Rows.{Row, acknowledges, renames}
-use Rattle.step_table.specs.Turn.{Turn}
-use Rattle.step_table.specs.World.{Turned}
+use Rattle.step_table.specs.Turn.{Turn, has_died_by}
+use Rattle.step_table.specs.World.{Turned, begin}
 use Rattle.step_table.specs.declared.progress.Progress.{Progress}
 use Rattle.step_table.proofs.Applying.{entries_of}
 use Rattle.node_core.specs.Plans.{PlanAt}
 use Rattle.replay_run.specs.Settings.{Change, PrefRules, PrefWorld, Value}
-use Rattle.replay_run.proofs.keeping.Living.{Living}
-use Rattle.replay_run.proofs.keeping.OwnTurns.{kinds_of, none_with_fault, own_turn, turn_row}
+use Rattle.replay_run.proofs.keeping.OwnTurns.{adds_own, kinds_of, none_with_fault}
+use Rattle.replay_run.proofs.keeping.TurnCases.{TurnCase, dead, struck, turn_case, works}
 use Rattle.replay_run.proofs.kept.RowFits.{FaultsRise}
 
 -- it tells of a Fault of the folder with this count, or a greater one
@@ -57,16 +57,22 @@ module _ (r : PrefRules) {M : Type 0} (s : Store Value M) where
     later_by e (Served request) it same = it.tally.counts.later
     later_by e (Faulted request) it same = it.tally.counts.later
 
-    -- so it is behind a turn of a call that lives
-    pub counts_on : (living : Living t.world) (gave : Progress (Reply Value)) → Turn r s t gave → PlanAt t.call.at → CountsFaults s t.world_after.tally.count t.world_after.history
-    counts_on living gave turn plan =
+    -- nor does a death tell of one
+    effect_tells : (greater : ℕ) (gave : Progress (Reply Value)) (turn : Turn r s t gave) → TurnCase r s t gave turn → (has_died_by (begin t) ≡ false → PlanAt t.call.at) → list_any (reaches greater) (entries_of t.call.id turn.effect.kinds) ≡ false
+    effect_tells greater gave turn (dead died it) plan = rw it.is refl
+    effect_tells greater gave turn (struck lives planned is) plan = rw is refl
+    effect_tells greater gave turn (works it) plan = row_tells greater t.world t.call.id it.row (plan it.lives)
+
+    -- so it is behind a turn
+    pub counts_on : (gave : Progress (Reply Value)) → Turn r s t gave → (has_died_by (begin t) ≡ false → PlanAt t.call.at) → CountsFaults s t.world_after.tally.count t.world_after.history
+    counts_on gave turn plan =
         let e = turn.effect in
         let later = later_by e e.folder turn.comes.used (ap (λ (w : PrefWorld). w.tally) turn.comes.world) in
         record {
           first = omega (arith, later, counts.first);
           told =
               λ greater low.
-              rw (own_turn r s t living gave turn plan).adds
+              rw (adds_own r s t gave turn)
               (none_in_both (reaches greater) t.world.history (entries_of t.call.id (kinds_of t e)) (counts.told greater (omega (arith, later, low)))
-              (none_with_fault (reaches greater) t.call.id e.folder t.world_after.tally.count e.kinds (below_count t.world_after.tally.count greater low) (row_tells greater t.world t.call.id (turn_row r s t living gave turn) plan)));
+              (none_with_fault (reaches greater) t.call.id e.folder t.world_after.tally.count e.kinds (below_count t.world_after.tally.count greater low) (effect_tells greater gave turn (turn_case r s t gave turn) plan)));
         }

@@ -25,9 +25,10 @@ use Rattle.step_table.specs.World.{Turned, World, begin}
 use Rattle.step_table.specs.declared.progress.Progress.{Progress}
 use Rattle.node_core.specs.Knows.{IsDue, Knows}
 use Rattle.node_core.specs.Ready.{MayWrite, plan_at}
+use Rattle.node_core.proofs.DyingFits.{death_fits}
 use Rattle.node_core.proofs.KeepingOn.{knows_begun, standing}
 use Rattle.node_core.proofs.RenameLemmas.{writes_due}
-use Rattle.replay_run.proofs.kept.RowFits.{FaultsRise, death_fits, may_end, row_fits}
+use Rattle.replay_run.proofs.kept.RowFits.{FaultsRise, row_fits}
 
 abbrev is_rename : Request → Bool
 is_rename Rename = true
@@ -89,7 +90,7 @@ module _ {V T M : Type 0} (r : Rules V T) (I : V → Type 0) (s : Store V M) whe
       row_keeps_main (acknowledges {ending = Kept edit}) comes k may = main_stays comes refl refl (row_fits r s t told lives rise kept.legal (acknowledges {ending = Kept edit}) comes k)
       row_keeps_main other comes k may = main_stays comes refl refl (row_fits r s t told lives rise kept.legal other comes k)
 
-    module _ (rise : FaultsRise r s t) (knows : has_died_by t ≡ false → Knows r s t.world t.call) (may : IfSome (plan_at t.call.at) (λ plan. MayWrite r I s t.world.history plan)) where
+    module _ (rise : FaultsRise r s t) (knows : has_died_by t ≡ false → Knows r s t.world t.call) (may : has_died_by t ≡ false → IfSome (plan_at t.call.at) (λ plan. MayWrite r I s t.world.history plan)) where
       by_effect : (gone died dies : Bool) (e : Effect V T) {gave : Progress (Reply V)} → has_died_by t ≡ died → AllowedBy r s gone died dies t e → Comes t e gave → KeptBy e
       by_effect true died dies e is it comes = absurd it
       by_effect false true dies e is it comes = main_stays comes (rw it.is refl) (rw it.is refl) (rw it.is tt)
@@ -98,11 +99,11 @@ module _ {V T M : Type 0} (r : Rules V T) (I : V → Type 0) (s : Store V M) whe
           by_death dies lives it
         where
           by_death : (dies : Bool) → is_dead t.call.id.node t.world.history ≡ false → AllowedBy r s false false dies t e → KeptBy e
-          by_death true lives it = main_stays comes (rw it refl) (rw it refl) (rw it (death_fits r.meanings s t.call.id t.world.history (may_end r s t.world t.call (knows is) lives), tt))
-          by_death false lives it = row_keeps_main lives rise it comes (knows is) may
+          by_death true lives it = main_stays comes (rw it refl) (rw it refl) (rw it (let k = knows is in death_fits t.call.id t.world.history r.meanings s t.call.at k.entries lives k.numbers, tt))
+          by_death false lives it = row_keeps_main lives rise it comes (knows is) (may is)
 
   -- whatever the turn is, of a call that knows the world as long as its node lives
-  pub turn_keeps_main : (t : Turned V T) (gave : Progress (Reply V)) → Turn r s t gave → (has_died_by (begin t) ≡ false → Knows r s t.world t.call) → IfSome (plan_at t.call.at) (λ plan. MayWrite r I s t.world.history plan)
+  pub turn_keeps_main : (t : Turned V T) (gave : Progress (Reply V)) → Turn r s t gave → (has_died_by (begin t) ≡ false → Knows r s t.world t.call) → (has_died_by (begin t) ≡ false → IfSome (plan_at t.call.at) (λ plan. MayWrite r I s t.world.history plan))
       → IsTrue t.world.told → FaultsRise r s t → KeptMain r I s t.world.folder t.world.history → KeptMain r I s t.world_after.folder t.world_after.history
   turn_keeps_main t gave turn knows may told rise kept =
       subst (λ list. KeptMain r I s t.world_after.folder list) (sym (ap (λ (w : World V T). w.history) turn.comes.world))

@@ -10,7 +10,7 @@ use Rattle.hist_journal.specs.Quiet.{Quiet}
 use Rattle.hist_journal.proofs.FoldLemmas.{value_of-other}
 use Rattle.shelf.specs.declared.store.Store.{Store}
 use Rattle.shelf.specs.Base.{ReadsAs}
-use Rattle.shelf.specs.Deaths.{has_died}
+use Rattle.shelf.specs.Deaths.{died_since}
 use Rattle.shelf.specs.Entries.{with_entries}
 use Rattle.shelf.specs.Kept.{KeptMain}
 use Rattle.shelf.specs.Legal.{Legal, value_at}
@@ -20,7 +20,7 @@ use Rattle.shelf.proofs.Bools.{never}
 use Rattle.shelf.proofs.FreshLemmas.{quiet_is_fresh}
 use Rattle.shelf.proofs.MeanwhileLemmas as meanwhile
 use Rattle.shelf.proofs.ReadingLemmas.{value_is}
-use Rattle.step_table.specs.Calls.{Ask, At, Call, First, Gone, Plan, Read, Reading, Reply, Update, is_gone}
+use Rattle.step_table.specs.Calls.{Ask, At, Call, First, Gone, Plan, Read, Reading, Reply, Restarting, Update, is_gone}
 use Rattle.step_table.specs.Effects.{Effect, all_kinds, at_by}
 use Rattle.step_table.specs.Rows.{Row, appends, changes, creates, raises, syncs_scratch}
 use Rattle.step_table.specs.Turn.{AllowedBy, Turn, dies_now, has_died_by}
@@ -84,26 +84,32 @@ module _ {V T M : Type 0} (r : Rules V T) (I : V → Type 0) (E : T → Type 0) 
       row_keeps_may syncs_scratch so may = may
       row_keeps_may other so may = tt
 
-      may_by : (gone died dies : Bool) (e : Effect V T) → AllowedBy r s gone died dies t e → IsFor t.call.id asked t.call.at t.world.history → IfSome (plan_at t.call.at) (λ plan. MayWrite r I s t.world.history plan) → MayBy t.call.at e
+      may_by : (gone died dies : Bool) (e : Effect V T) → AllowedBy r s gone died dies t e → IsFor t.call.id asked t.call.at t.world.history → (died ≡ false → IfSome (plan_at t.call.at) (λ plan. MayWrite r I s t.world.history plan)) → MayBy t.call.at e
       may_by true died dies e it so may = absurd it
       may_by false true dies e it so may = rw it.is tt
       may_by false false true e it so may = rw it tt
-      may_by false false false e it so may = row_keeps_may it so may
+      may_by false false false e it so may = row_keeps_may it so (may refl)
 
     pub turn_keeps_may : (t : Turned V T) (gave : Progress (Reply V)) → Turn r s t gave → IsTrue t.world.told → KeptMain r I s t.world.folder t.world.history
-        → (asked : Ask T) → IsTypedAsk E asked → IsFor t.call.id asked t.call.at t.world.history → IfSome (plan_at t.call.at) (λ plan. MayWrite r I s t.world.history plan) → IfSome (plan_at t.call_after.at) (λ plan. MayWrite r I s t.world_after.history plan)
+        → (asked : Ask T) → IsTypedAsk E asked → IsFor t.call.id asked t.call.at t.world.history → (has_died_by (begin t) ≡ false → IfSome (plan_at t.call.at) (λ plan. MayWrite r I s t.world.history plan)) → IfSome (plan_at t.call_after.at) (λ plan. MayWrite r I s t.world_after.history plan)
     turn_keeps_may t gave turn told kept asked is_typed so may =
         rw (turn.comes.call, ap (λ (w : World V T). w.history) turn.comes.world)
         (may_by asked is_typed (begin t) told (reads_well t.world (λ told. kept)) (is_gone t.call.at) (has_died_by (begin t)) (dies_now (begin t)) turn.effect turn.allowed so may)
 
--- a call that holds nothing writes nothing
+-- a call that has ended writes nothing
+pub gone_writes : {V T : Type 0} (P : Plan V T → Type 0) (at : At V T) → is_gone at ≡ true → IfSome (plan_at at) P
+gone_writes P Gone gone = tt
+gone_writes P other gone = never gone
+
+-- nor does one that holds nothing
 free_writes : {V T : Type 0} (P : Plan V T → Type 0) (at : At V T) → is_holding at ≡ false → IfSome (plan_at at) P
 free_writes P (First ask) free = tt
 free_writes P (Reading purpose ask) free = tt
+free_writes P (Restarting node) free = tt
 free_writes P Gone free = tt
 free_writes P other free = never (sym free)
 
-module _ {V T M : Type 0} (r : Rules V T) (I : V → Type 0) (s : Store V M) (c : Call V T) (last now : World V T) (knows : Knows r s last c) (between : Between c last now) (lives : has_died c.id.node c.since now.history ≡ false) where
+module _ {V T M : Type 0} (r : Rules V T) (I : V → Type 0) (s : Store V M) (c : Call V T) (last now : World V T) (knows : Knows r s last c) (between : Between c last now) (alive : died_since c.id.node c.since now.history ≡ false) where
   -- what others do leaves the plan of a call as it is
   pub plan_stays : IfSome (plan_at c.at) (λ plan. MayWrite r I s last.history plan) → IfSome (plan_at c.at) (λ plan. MayWrite r I s now.history plan)
   plan_stays may = by_lock (is_holding c.at) refl
@@ -112,5 +118,5 @@ module _ {V T M : Type 0} (r : Rules V T) (I : V → Type 0) (s : Store V M) (c 
       by_lock false free = free_writes (λ plan. MayWrite r I s now.history plan) c.at free
       by_lock true holds =
           let value : value_at r.meanings s now.history ≡ value_at r.meanings s last.history =
-          rw between.grew (meanwhile.value r.meanings.after s.base last.history between.more (owner_kept r s c last now knows between lives holds).1.outer) in
+          rw between.grew (meanwhile.value r.meanings.after s.base last.history between.more (owner_kept r s c last now knows between alive holds).1.outer) in
           IfSome_then (plan_at c.at) may (λ plan it. rw value it)

@@ -1,58 +1,30 @@
 -- The entries of a turn fit behind those before it.
-use Rattle.std.proofs.Common.{◌≡◌, true, false, List, [], ◌∷◌, IsTrue, refl}
-use Rattle.store_traits.specs.declared.ids.CallId.{CallId}
+use Rattle.std.proofs.Common.{◌≡◌, true, false, [], ◌∷◌, IsTrue, refl}
 use Rattle.hist_journal.specs.declared.device.Device.TheVariants.{Folder}
-use Rattle.hist_journal.specs.declared.seen.EntrySeen.{EntrySeen}
-use Rattle.hist_journal.specs.declared.seen.KindSeen.TheVariants.{Death, Fault}
+use Rattle.hist_journal.specs.declared.seen.KindSeen.TheVariants.{Fault}
 use Rattle.hist_journal.specs.Nodes.{is_dead}
 use Rattle.shelf.specs.declared.store.Store.{Store}
 use Rattle.shelf.specs.FaultCounts.{RaisesCount}
-use Rattle.shelf.specs.Legal.{Fits, Legal}
-use Rattle.shelf.specs.Meanings.{Meanings}
+use Rattle.shelf.specs.Legal.{Legal}
 use Rattle.shelf.specs.Rules.{Rules}
 use Rattle.shelf.specs.ShelfTurns.{FitInTurn}
-use Rattle.shelf.proofs.Bools.{never}
-use Rattle.shelf.proofs.GoingOn.{inited_fits, none_ended, raise_fits}
-use Rattle.shelf.proofs.LateCallLemmas.{EndsOn, late_fault, late_synced_fits}
+use Rattle.shelf.proofs.GoingOn.{inited_fits, raise_fits}
+use Rattle.shelf.proofs.LateCallLemmas.{late_fault, late_synced_fits}
 use Rattle.shelf.proofs.PendingLemmas.{open_iff_pending}
-use Rattle.step_table.specs.Calls.{At, Call, Changed, Kept, Reply, SyncingFolder}
+use Rattle.step_table.specs.Calls.{At, Changed, Kept, Reply}
 use Rattle.step_table.specs.Effects.{Comes, Effect, all_kinds}
 use Rattle.step_table.specs.Requests.{Request, Serves}
-use Rattle.step_table.specs.Rows.{Row, acknowledges, finishes, raises, read_fails, renames, sync_fails, write_fails}
-use Rattle.step_table.specs.World.{Turned, World}
+use Rattle.step_table.specs.Rows.{Row, acknowledges, finishes, raises, read_fails, renames, restarts, sync_fails, write_fails}
+use Rattle.step_table.specs.World.{Turned}
 use Rattle.step_table.specs.declared.progress.Progress.{Progress}
 use Rattle.node_core.specs.Knows.{Knows}
-use Rattle.node_core.specs.Own.{OwnEntries}
+use Rattle.node_core.proofs.DyingFits.{going_restarts, living_ends}
 use Rattle.node_core.proofs.EarlyLemmas.{changed_ends_on, early_goes_on}
 use Rattle.node_core.proofs.EndLemmas.{kept_fits}
 use Rattle.node_core.proofs.KeepingOn.{standing}
 use Rattle.node_core.proofs.RenameLemmas.{edit_may}
 
-module _ {V T M : Type 0} (m : Meanings V T) (s : Store V M) where
-  -- its node may die, as its last entry
-  pub death_fits : (call : CallId) (list : List (EntrySeen V T)) → EndsOn call list → Fits m s list (record { who = call; kind = Death call.node })
-  death_fits call list e =
-      record {
-        value = tt;
-        raised = never;
-        lifetimes = record { lives = e.lives; named = refl };
-        order = record { numbers = e.numbers; goes_on = e.unended; update = λ has. record { ends = refl; first = e.first } };
-        readiness = tt;
-        settings = tt;
-        counts = tt;
-      }
-
 module _ {V T M : Type 0} (r : Rules V T) (s : Store V M) where
-  -- a call of a living node may end
-  pub may_end : (w : World V T) (c : Call V T) → Knows r s w c → is_dead c.id.node w.history ≡ false → EndsOn c.id w.history
-  may_end w c k lives = by_at c.at k.entries
-    where
-      by_at : (at : At V T) → OwnEntries c.id at w.history → EndsOn c.id w.history
-      by_at (SyncingFolder (Changed place)) changed = changed_ends_on c.id place w.history changed lives k.numbers
-      by_at other early =
-          let goes = early_goes_on c.id w.history early lives k.numbers in
-          record { lives = lives; numbers = k.numbers; unended = goes.unended; first = none_ended c.id w.history goes.unchanged }
-
   module _ (t : Turned V T) where
     -- a call of the folder that fails tells of a new count
     abbrev pub FaultsRise : Type 0
@@ -62,7 +34,7 @@ module _ {V T M : Type 0} (r : Rules V T) (s : Store V M) where
       a_fault : {at : At V T} (request : Request) → Knows r s t.world (standing at t.call) → Serves request true t.world t.world_after
           → FitInTurn r.meanings s t.call.id (Fault Folder t.world_after.tally.count ∷ []) t.world.history
       a_fault {at} request k serves =
-          (late_fault t.call.id r.meanings s t.world.history (may_end t.world (standing at t.call) k lives) t.world_after.tally.count (rise request serves), tt)
+          (late_fault t.call.id r.meanings s t.world.history (living_ends t.call.id t.world.history at k.entries lives k.numbers) t.world_after.tally.count (rise request serves), tt)
 
       pub row_fits : {at : At V T} {e : Effect V T} {gave : Progress (Reply V)} → Row r s t.world t.call.id at e → Comes t e gave → Knows r s t.world (standing at t.call)
           → FitInTurn r.meanings s t.call.id (all_kinds e.folder t.world_after.tally.count e.kinds) t.world.history
@@ -79,4 +51,5 @@ module _ {V T M : Type 0} (r : Rules V T) (s : Store V M) where
       row_fits (acknowledges {ending = Changed place}) comes k = (late_synced_fits _ _ _ _ (changed_ends_on _ place _ k.entries lives k.numbers), tt)
       row_fits (acknowledges {ending = Kept edit}) comes k =
           kept_fits _ _ _ _ edit (early_goes_on _ _ k.entries lives k.numbers) (k.holds refl).ready (k.contents told)
+      row_fits (restarts {node} is_dead) comes k = (going_restarts t.call.id t.world.history r.meanings s (early_goes_on _ _ k.entries lives k.numbers) node is_dead, tt)
       row_fits other comes k = tt

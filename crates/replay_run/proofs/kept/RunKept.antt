@@ -1,7 +1,6 @@
 -- What a run keeps of main: the history is lawful, main is what it comes to, and what a client writes may be main.
-use Rattle.std.proofs.Common.{◌≡◌, ◌∙◌, ◌<◌, ◌^◌, inl, inr, ℕ, true, List, [], ◌∷◌, All, length, Option, Some, None, IfSome, refl, sym, ap, ne_eqb, arith, slice_get}
+use Rattle.std.proofs.Common.{◌≡◌, ◌∙◌, ◌<◌, ◌^◌, inl, inr, ℕ, true, false, List, [], ◌∷◌, All, length, Option, Some, None, IfSome, refl, ap, arith, slice_get, unwrap_or}
 use Rattle.std.proofs.lemmas.List.Elements.{All-append, All-cons, All-nil}
-use Rattle.store_traits.specs.declared.ids.CallId.{CallId}
 use Rattle.store_traits.specs.declared.ids.NodeId.{NodeId}
 use Rattle.folder_disk.specs.Tally.{Tally}
 use Rattle.hist_journal.specs.Folds as folds
@@ -12,36 +11,40 @@ use Rattle.prefs_proto.specs.Laws.OneReading.{reads_once}
 use Rattle.prefs_proto.specs.Laws.Written.{written_reads}
 use Rattle.shelf.specs.declared.store.Store.{Store}
 use Rattle.shelf.specs.Base.{HasItsBase}
+use Rattle.shelf.specs.Deaths.{died_since}
 use Rattle.shelf.specs.Kept.{KeptMain}
-use Rattle.shelf.proofs.DeathLemmas.{has_not_died}
 use Rattle.shelf.proofs.LegalLemmas.{Legal-empty}
 use Rattle.step_table.specs.Caching.{found}
 use Rattle.step_table.specs.Calls.{Read, Reply, Update}
-use Rattle.step_table.specs.World.{Turned}
+use Rattle.step_table.specs.Turn.{has_died_by}
+use Rattle.step_table.specs.World.{begin}
 use Rattle.step_table.specs.declared.progress.Progress.{Progress}
 use Rattle.node_core.specs.Ready.{MayWrite, plan_at}
-use Rattle.node_core.proofs.SparingLemmas.{turn_spares}
 use Rattle.script_lang.specs.Asked.{Asked}
 use Rattle.script_lang.specs.declared.plan.run_line.Act.{Act}
+use Rattle.script_lang.specs.declared.plan.run_line.Act.TheVariants as act
 use Rattle.replay_run.specs.Answering.{behind_look}
-use Rattle.replay_run.specs.ClientInvariant.{CallInvariant}
+use Rattle.replay_run.specs.ClientInvariant.{CallInvariant, IsForAct}
 use Rattle.replay_run.specs.Failing.{FailsWithin}
 use Rattle.replay_run.specs.Lines.{Asks}
 use Rattle.replay_run.specs.PrefsBasis.{prefs_basis}
 use Rattle.replay_run.specs.RunInvariant.{ReadsWell, RunInvariant}
-use Rattle.replay_run.specs.RunState.{Client, NodeView, RunState, act_now, act_of, call_now}
-use Rattle.replay_run.specs.Settings.{Change, PrefAsk, PrefCached, PrefCall, PrefRules, PrefWorld, Value}
+use Rattle.replay_run.specs.RunState.{Client, NodeView, RunState, act_now, call_now, new_call}
+use Rattle.replay_run.specs.Settings.{PrefCached, PrefCall, PrefRules, PrefWorld, Value}
 use Rattle.replay_run.specs.Start.{start_of}
 use Rattle.replay_run.specs.Steps.{StepsAt, TakesTurn}
 use Rattle.replay_run.specs.Typed.{AreSteps, IsTypedAct}
 use Rattle.replay_run.proofs.keeping.BehindTurns.{Behind, behind, behind_same, blocked, ended, moved}
-use Rattle.replay_run.proofs.keeping.CallKept.{asks_keep, call_kept}
-use Rattle.replay_run.proofs.keeping.Living.{Living, is_living}
-use Rattle.replay_run.proofs.keeping.StepCases.{StepCase, looks, rests, step_case, turns}
-use Rattle.replay_run.proofs.keeping.StepsKeep.{new_from, start_keeps, steps_keep}
+use Rattle.replay_run.proofs.keeping.CallKept.{asks_keep}
+use Rattle.replay_run.proofs.keeping.ClientTurns.{ClientTurn, call, kept, knows, not_since, turned}
+use Rattle.replay_run.proofs.keeping.OtherClients.{alive_before, between, knew}
+use Rattle.replay_run.proofs.keeping.OwnEdits.{is_restarting}
+use Rattle.replay_run.proofs.keeping.RestartTurns.{restart_ends}
+use Rattle.replay_run.proofs.keeping.StepCases.{IsCalled, StepCase, looks, rests, step_case, turns}
+use Rattle.replay_run.proofs.keeping.StepsKeep.{new_from, start_keeps, steps_keep, taken}
 use Rattle.replay_run.proofs.kept.FaultsTold.{CountsFaults, counts_on, counts_rise}
 use Rattle.replay_run.proofs.kept.MainKept.{turn_keeps_main}
-use Rattle.replay_run.proofs.kept.PlansKept.{IsTypedAsk, ReadsValues, plan_stays, reads_fresh, reads_well, turn_keeps_may}
+use Rattle.replay_run.proofs.kept.PlansKept.{ReadsValues, gone_writes, plan_stays, reads_fresh, reads_well, turn_keeps_may}
 use Rattle.replay_run.proofs.lists.SetLemmas.{found_then}
 use Rattle.replay_run.proofs.lists.SetViews.{all_found}
 
@@ -57,19 +60,24 @@ values_of_settings s low =
       made = λ edit v new steps is makes. IsMap-after_steps edit v new steps is makes;
     }
 
-typed_ask : (ask : PrefAsk) → IsTypedAct (act_of ask) → IsTypedAsk AreSteps ask
-typed_ask (Update edit) typed = typed
-typed_ask Read typed = typed
-
 module _ (r : PrefRules) {M : Type 0} (s : Store Value M) where
   -- what the call writes may be main
   abbrev pub MayWriteNow : PrefWorld → PrefCall → Type 0
   MayWriteNow w call = IfSome (plan_at call.at) (λ plan. MayWrite r IsMap s w.history plan)
 
+  -- as long as its node has not died
+  abbrev pub MayWriteAlive : PrefWorld → PrefCall → Type 0
+  MayWriteAlive w call = died_since call.id.node call.since w.history ≡ false → MayWriteNow w call
+
+  -- a call that is to begin writes nothing
+  first_writes : (w : PrefWorld) (client : Client) (asked : Act) → MayWriteNow w (new_call client asked)
+  first_writes w client (act.Update edit) = tt
+  first_writes w client other = tt
+
   -- its edits are edits, and what its call writes may be main
   pub record KeptClient (w : PrefWorld) (client : Client) : Type 0 where
     pub typed : All IsTypedAct client.asked
-    pub writes : IfSome client.running (MayWriteNow w)
+    pub writes : IfSome client.running (MayWriteAlive w)
 
   -- beside the run's own, the history is lawful, main is what it comes to, and the folder counts what Faults tell
   pub record KeptState (state : RunState) : Type 0 where
@@ -110,7 +118,7 @@ module _ (r : PrefRules) {M : Type 0} (s : Store Value M) where
             ]);
       }
 
-  module _ (values : ReadsValues r IsMap AreSteps s) (unplanned : s.deaths ≡ []) where
+  module _ (values : ReadsValues r IsMap AreSteps s) where
     module _ (place : ℕ) (old new : RunState) (it : StepsAt r s place old new) (k : KeptState old) where
       abbrev w : PrefWorld
       w = old.shared.world
@@ -128,10 +136,7 @@ module _ (r : PrefRules) {M : Type 0} (s : Store Value M) where
       well = record { told = k.told; reads = reads_well r IsMap AreSteps s values w (λ told. k.main); fresh = reads_fresh r.meanings s w.history k.main.legal }
 
       run_after : RunInvariant r s new
-      run_after = steps_keep r s unplanned place old new it well k.run
-
-      living_after : Living w_after
-      living_after = is_living s unplanned r new run_after
+      run_after = steps_keep r s place old new it well k.run
 
       mine : KeptClient w it.client
       mine = k.clients place it.client it.was
@@ -144,53 +149,48 @@ module _ (r : PrefRules) {M : Type 0} (s : Store Value M) where
         own : KeptClient w_after it.client_after
         others : (other : ℕ) (c : Client) → (other ≡ place → ⊥) → slice_get old.clients other ≡ Some c → KeptClient w_after c
 
-      module _ (ask : PrefAsk) (asked : act_now it.client ≡ Some (act_of ask)) (turn : TakesTurn r s (call_now it.client ask) it.client view it.client_after view_after) where
-        abbrev call : PrefCall
-        call = call_now it.client ask
+      module _ (asked : Act) (called : IsCalled asked) (at_it : act_now it.client ≡ Some asked) (turn : TakesTurn r s (call_now it.client asked) it.client view it.client_after view_after) where
+        abbrev takes : ClientTurn r s old
+        takes = taken r s place old new it well k.run asked called at_it turn
 
-        abbrev turned : Turned Value Change
-        turned = record { world = w; call = call; world_after = w_after; call_after = turn.call_after }
-
-        kept : CallInvariant r s it.client w call
-        kept = call_kept r s old place it.client it.was k.run ask asked
-
-        may : MayWriteNow w call
-        may = by_running it.client.running mine.writes
+        -- what the call writes may be main, as long as it lives
+        may : has_died_by (begin (turned takes)) ≡ false → MayWriteNow w (call takes)
+        may lives = by_running it.client.running mine.writes (not_since takes lives)
           where
-            by_running : (running : Option PrefCall) → IfSome running (MayWriteNow w) → MayWriteNow w (call_now (record it.client { running = running }) ask)
-            by_running None it = tt
-            by_running (Some running) it = it
+            by_running : (running : Option PrefCall) → IfSome running (MayWriteAlive w) → died_since (unwrap_or running (new_call it.client asked)).id.node (unwrap_or running (new_call it.client asked)).since w.history ≡ false
+                → MayWriteNow w (unwrap_or running (new_call it.client asked))
+            by_running None writes alive = first_writes w it.client asked
+            by_running (Some running) writes alive = writes alive
 
-        typed : IsTypedAsk AreSteps kept.ask
-        typed = typed_ask kept.ask (all_found IsTypedAct it.client.asked _ (act_of kept.ask) kept.asked mine.typed)
+        may_by : (a : Act) → IsTypedAct a → IsForAct (call takes).id a (call takes).at w.history → MayWriteNow w_after turn.call_after
+        may_by (act.Update edit) typed so = turn_keeps_may r IsMap AreSteps s values (turned takes) turn.gave turn.turn k.told k.main (Update edit) typed so may
+        may_by act.Read typed so = turn_keeps_may r IsMap AreSteps s values (turned takes) turn.gave turn.turn k.told k.main Read typed so may
+        may_by (act.Restart node) typed so = gone_writes (λ plan. MayWrite r IsMap s w_after.history plan) turn.call_after.at (restart_ends r s (turned takes) turn.gave turn.turn (ap is_restarting so))
+        may_by other typed so = absurd so
 
         may_after : MayWriteNow w_after turn.call_after
-        may_after = turn_keeps_may r IsMap AreSteps s values turned turn.gave turn.turn k.told k.main kept.ask typed kept.is_for may
+        may_after = may_by (kept takes).asked (all_found IsTypedAct it.client.asked _ (kept takes).asked (kept takes).at_it mine.typed) (kept takes).is_for
 
-        own_writes : (gave : Progress (Reply Value)) (c : Client) → Behind it.client turn.call_after gave c → IfSome c.running (MayWriteNow w_after)
+        own_writes : (gave : Progress (Reply Value)) (c : Client) → Behind it.client turn.call_after gave c → IfSome c.running (MayWriteAlive w_after)
         own_writes gave c (ended tells) = tt
-        own_writes gave c moved = may_after
-        own_writes gave c blocked = may_after
+        own_writes gave c moved = λ alive. may_after
+        own_writes gave c blocked = λ alive. may_after
 
-        others_write : (other : ℕ) (c : Client) → (other ≡ place → ⊥) → slice_get old.clients other ≡ Some c → IfSome c.running (MayWriteNow w_after)
+        others_write : (other : ℕ) (c : Client) → (other ≡ place → ⊥) → slice_get old.clients other ≡ Some c → IfSome c.running (MayWriteAlive w_after)
         others_write other c apart found = by_running c.running (k.run.clients other c found).running (k.clients other c found).writes
           where
-            by_running : (running : Option PrefCall) → IfSome running (CallInvariant r s c w) → IfSome running (MayWriteNow w) → IfSome running (MayWriteNow w_after)
+            by_running : (running : Option PrefCall) → IfSome running (CallInvariant r s c w) → IfSome running (MayWriteAlive w) → IfSome running (MayWriteAlive w_after)
             by_running None theirs writes = tt
             by_running (Some o) theirs writes =
-                let there : o.id.client.0 ≡ other = ap (λ (id : CallId). id.client.0) theirs.id ∙ (k.run.clients other c found).id in
-                let here : call.id.client.0 ≡ place = ap (λ (id : CallId). id.client.0) kept.id ∙ (k.run.clients place it.client it.was).id in
-                let differ = ne_eqb o.id.client.0 call.id.client.0 (λ same. apart (sym there ∙ (same ∙ here))) in
-                plan_stays r IsMap s o w w_after theirs.knows (turn_spares r s turned turn.gave turn.turn kept.knows o differ theirs.knows)
-                (has_not_died o.id.node o.since w_after.history living_after.alive) writes
+                λ alive. plan_stays r IsMap s o w w_after (knew takes other c apart found o theirs alive) (between takes other c apart found o theirs alive) alive (writes (alive_before takes other c apart found o theirs alive))
 
         left_by_turn : Left
         left_by_turn =
             let gone = behind it.client turn.call_after turn.gave it.client_after turn.now in
             record {
               told = ap (λ (x : PrefWorld). x.told) turn.turn.comes.world ∙ k.told;
-              main = turn_keeps_main r IsMap s turned turn.gave turn.turn (λ lives. kept.knows) may k.told (counts_rise r s turned k.counts) k.main;
-              counts = counts_on r s turned k.counts (is_living s unplanned r old k.run) turn.gave turn.turn kept.knows.plan;
+              main = turn_keeps_main r IsMap s (turned takes) turn.gave turn.turn (knows takes) may k.told (counts_rise r s (turned takes) k.counts) k.main;
+              counts = counts_on r s (turned takes) k.counts turn.gave turn.turn (λ lives. (knows takes lives).plan);
               own = record { typed = rw (behind_same turn.gave it.client_after gone).asked mine.typed; writes = own_writes turn.gave it.client_after gone };
               others = λ other c apart found. record { typed = (k.clients other c found).typed; writes = others_write other c apart found };
             }
@@ -203,13 +203,13 @@ module _ (r : PrefRules) {M : Type 0} (s : Store Value M) where
 
       -- a read writes nothing
       behind_its_look : (found : Option PrefCached) → KeptClient w (behind_look it.client found)
-      behind_its_look None = record { typed = mine.typed; writes = tt }
+      behind_its_look None = record { typed = mine.typed; writes = λ alive. tt }
       behind_its_look (Some one) = record { typed = mine.typed; writes = tt }
 
       left : StepCase r s it.client view it.client_after view_after → Left
       left (rests none client same) = left_by_other same (rw client mine)
-      left (turns ask asked turn) = left_by_turn ask asked turn
-      left (looks asked idle look) = left_by_other look.same (rw look.now (behind_its_look (found it.kept w.version)))
+      left (turns asked called at_it turn) = left_by_turn asked called at_it turn
+      left (looks at_it idle look) = left_by_other look.same (rw look.now (behind_its_look (found it.kept w.version)))
 
       -- what is kept of main stays from step to step
       pub steps_keep_main : KeptState new

@@ -1,5 +1,5 @@
 -- A session's start: its nodes and its clients.
-use Rattle.std.proofs.Common.{◌≡◌, ◌∙◌, ◌+◌, ◌<◌, ◌≤◌, ◌==◌, ◌++◌, ℕ, suc, true, false, All, List, [], ◌∷◌, map, length, None, refl, get_or, take, vec_len, sym, ap, subst, arith}
+use Rattle.std.proofs.Common.{◌≡◌, ◌∙◌, ◌+◌, ◌<◌, ◌≤◌, ◌==◌, ◌++◌, ℕ, suc, nat_lt, Bool, true, false, All, List, [], ◌∷◌, map, length, None, refl, get_or, take, vec_len, sym, ap, subst, arith}
 use Rattle.std.specs.List.{enumerate_from, range_with_len}
 use Rattle.std.proofs.lemmas.Bool.Decides.{nat_tests}
 use Rattle.std.proofs.lemmas.List.{get_or-map, length-map, length-take-le, map_push, take_more}
@@ -8,6 +8,7 @@ use Rattle.std.proofs.lemmas.List.Folds.{list_any_at, list_any_none}
 use Rattle.std.proofs.lemmas.List.FromFn.{get_or-enumerate_from, get_or-map-range_with_len, length-enumerate_from, length-map-range_with_len}
 use Rattle.store_traits.specs.declared.ids.NodeId.{NodeId}
 use Rattle.shelf.specs.AddsNode.{is_among}
+use Rattle.shelf.proofs.Bools.{never}
 use Rattle.replay_run.specs.declared.client.Client as own
 use Rattle.replay_run.specs.NewClients.{AreNew}
 use Rattle.replay_run.specs.RunState.{Client}
@@ -39,6 +40,14 @@ among_first count node below =
     let same : (node.0 == node.0) ≡ true = grind (arith, nat_tests) in
     list_any_at (λ known. known.0 == node.0) (first_nodes count) node.0 node (omega (arith, below, length-map-range_with_len numbered 0 count))
     (ap (λ (known : NodeId). known.0 == node.0) (node_at count node.0 node below) ∙ same)
+
+-- so a node that is among them has such a number
+pub number_among : (count : ℕ) (node : NodeId) → is_among node (first_nodes count) ≡ true → node.0 < count
+number_among count node is = by_test (nat_lt node.0 count) refl
+  where
+    by_test : (b : Bool) → nat_lt node.0 count ≡ b → node.0 < count
+    by_test true below = grind (arith, nat_tests, below)
+    by_test false past = never (sym (not_among count node (grind (arith, nat_tests, past))) ∙ is)
 
 -- places of a list, as nodes
 pub nodes_numbered : {X : Type 0} (first : ℕ) (xs : List X) → ◌≡◌ {A = List NodeId} (map (λ placed. numbered placed.0) (enumerate_from first xs)) (map numbered (range_with_len first (length xs)))

@@ -2,7 +2,7 @@
 use Rattle.std.proofs.Common.{◌≡◌, ◌∙◌, ◌≤◌, ◌<◌, ℕ, List, [], ◌∷◌, map, length, All, Some, option_map, slice_get, slice_set, vec_len, refl, sym, ap, subst, arith}
 use Rattle.std.specs.List.{list_any}
 use Rattle.std.proofs.lemmas.List.{length-map}
-use Rattle.std.proofs.lemmas.List.Elements.{All-cons, All-head, All-nil, All-tail, All-weaker}
+use Rattle.std.proofs.lemmas.List.Elements.{All-cons, All-head, All-map, All-nil, All-tail, All-weaker}
 use Rattle.std.proofs.lemmas.Option.{slice_get-map}
 use Rattle.replay_run.specs.declared.client.Client as own
 use Rattle.replay_run.specs.declared.running_session.RunningSession.{RunningSession}
@@ -12,16 +12,13 @@ use Rattle.replay_run.specs.SessionView.{client_seen, state_in, store_in}
 use Rattle.replay_run.proofs.lists.SetLemmas.{set_same}
 use Rattle.replay_run.proofs.lists.SetViews.{map_set}
 
-all_by : {X Y : Type 0} (P : Y → Type 0) (f : X → Y) (xs ys : List X) → map f ys ≡ map f xs → All (λ x. P (f x)) xs → All (λ x. P (f x)) ys
-all_by {X} {Y} P f xs ys same all = from_map ys (subst (λ list. All P list) (sym same) (to_map xs all))
-  where
-    to_map : (list : List X) → All (λ x. P (f x)) list → All P (map f list)
-    to_map [] held = All-nil P
-    to_map (x ∷ list) held = All-cons P (f x) (map f list) (All-head (λ x. P (f x)) x list held) (to_map list (All-tail (λ x. P (f x)) x list held))
+-- what holds of what is seen of each element
+pub all_seen : {X Y : Type 0} (P : Y → Type 0) (f : X → Y) (xs : List X) → All P (map f xs) → All (λ x. P (f x)) xs
+all_seen P f [] held = All-nil (λ x. P (f x))
+all_seen P f (x ∷ xs) held = All-cons (λ x. P (f x)) x xs (All-head P (f x) (map f xs) held) (all_seen P f xs (All-tail P (f x) (map f xs) held))
 
-    from_map : (list : List X) → All P (map f list) → All (λ x. P (f x)) list
-    from_map [] held = All-nil (λ x. P (f x))
-    from_map (x ∷ list) held = All-cons (λ x. P (f x)) x list (All-head P (f x) (map f list) held) (from_map list (All-tail P (f x) (map f list) held))
+all_by : {X Y : Type 0} (P : Y → Type 0) (f : X → Y) (xs ys : List X) → map f ys ≡ map f xs → All (λ x. P (f x)) xs → All (λ x. P (f x)) ys
+all_by P f xs ys same all = all_seen P f ys (subst (λ list. All P list) (sym same) (All-map P f xs all))
 
 pub few_on : (most : ℕ) (old new : RunningSession) → AskedAlike old new → AsksFew most old → AsksFew most new
 few_on most old new same few = all_by (λ asked. vec_len asked ≤ most) (λ (x : own.Client). x.asked) old.clients.items new.clients.items same few
@@ -35,11 +32,11 @@ count_on old new same =
     new.clients.ok.0 ∙ (sym (length-map new.clients.items g) ∙ (ap (λ list. length list) same ∙ (length-map old.clients.items g ∙ sym old.clients.ok.0)))
 
 -- one client is another now that is asked for the same
-pub asked_alike : (old new : RunningSession) (place : ℕ) (client after : own.Client) → slice_get old.clients.items place ≡ Some client → new.clients.items ≡ slice_set old.clients.items place after → after.asked ≡ client.asked → AskedAlike old new
-asked_alike old new place client after found now same =
+pub asked_alike : (clients : List own.Client) (place : ℕ) (client after : own.Client) → slice_get clients place ≡ Some client → after.asked ≡ client.asked → map (λ (x : own.Client). x.asked) (slice_set clients place after) ≡ map (λ (x : own.Client). x.asked) clients
+asked_alike clients place client after found same =
     let g = λ (x : own.Client). x.asked in
-    let there : slice_get (map g old.clients.items) place ≡ Some client.asked = slice_get-map g old.clients.items place ∙ ap (λ o. option_map g o) found in
-    ap (λ list. map g list) now ∙ (map_set g g old.clients.items place after (λ j y apart is. refl) ∙ (ap (λ e. slice_set (map g old.clients.items) place e) same ∙ set_same (map g old.clients.items) place client.asked there))
+    let there : slice_get (map g clients) place ≡ Some client.asked = slice_get-map g clients place ∙ ap (λ o. option_map g o) found in
+    map_set g g clients place after (λ j y apart is. refl) ∙ (ap (λ e. slice_set (map g clients) place e) same ∙ set_same (map g clients) place client.asked there)
 
 -- a session has gone on from this one: nobody was asked for anything
 pub record GoneOn (old now : RunningSession) : Type 0 where

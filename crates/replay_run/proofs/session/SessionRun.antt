@@ -1,5 +1,5 @@
 -- A session that was opened, followed its lines and was finished is the end of a run.
-use Rattle.std.proofs.Common.{◌≡◌, ◌∙◌, [], ◌∷◌, length, All, IfOk, vec_len, refl, sym, ap, subst, arith, Result, Ok, Err}
+use Rattle.std.proofs.Common.{◌≡◌, ◌∙◌, [], ◌∷◌, get_or, length, All, IfOk, vec_len, refl, sym, ap, subst, arith, Result, Ok, Err}
 use Rattle.std.proofs.Math.Logic.{∥∥₁_map}
 use Rattle.std.proofs.lemmas.List.Elements.{All-head}
 use Rattle.std.proofs.lemmas.List.{length-map}
@@ -7,11 +7,14 @@ use Rattle.std.proofs.lemmas.List.FromFn.{length-enumerate_from}
 use Rattle.std.specs.List.{enumerate_from}
 use Rattle.shelf.specs.Base.{HasItsBase}
 use Rattle.shelf.proofs.EachLemmas.{each_walked}
+use Rattle.script_lang.specs.declared.plan.run_line.Act.{Act}
+use Rattle.script_lang.specs.declared.plan.run_line.Act.TheVariants as act
 use Rattle.script_lang.specs.declared.plan.script.Script.{Script}
 use Rattle.script_lang.specs.declared.plan.session_plan.SessionPlan.{SessionPlan}
+use Rattle.script_lang.specs.declared.transcripts.file_seen.FileSeen.TheVariants.{Absent}
 use Rattle.script_lang.specs.declared.transcripts.transcript.Transcript.{Transcript}
 use Rattle.script_lang.specs.Chronicle.{Chapter, tally_of}
-use Rattle.script_lang.specs.Keeps.{IsBuiltAct, Keeps, KeepsPlan}
+use Rattle.script_lang.specs.Keeps.{IsBuiltAct, Keeps, KeepsAct, KeepsPlan}
 use Rattle.script_lang.specs.TranscriptView.{SessionSeen}
 use Rattle.script_lang.proofs.GoodChapters.{one_chapter}
 use Rattle.replay_run.specs.declared.running_session.RunningSession.{RunningSession}
@@ -24,10 +27,12 @@ use Rattle.replay_run.specs.RunState.{RunState}
 use Rattle.replay_run.specs.ScriptRun.{IsPlayed, Tells}
 use Rattle.replay_run.specs.SessionInvariant.{SessionInvariant}
 use Rattle.replay_run.specs.SessionPlayed.{IsPlayedWell, first_chapter}
-use Rattle.replay_run.specs.SessionSteps.{CanFollow, IsOpened}
+use Rattle.replay_run.specs.SessionSteps.{CanFollow, IsOpened, NamesNode}
 use Rattle.replay_run.specs.SessionView.{client_seen, state_in, store_in}
 use Rattle.replay_run.specs.Settings.{PrefStore}
+use Rattle.replay_run.specs.ShelfOpens.{first_nodes}
 use Rattle.replay_run.specs.Start.{new_client, start_of}
+use Rattle.replay_run.proofs.session.OpeningLemmas.{among_first, nodes_numbered}
 use Rattle.replay_run.proofs.truth.GoodRun.{good_session, one_plan, unstopped}
 
 pub if_both : {X E : Type 0} {P Q R : X → Type 0} (r : Result X E) → IfOk r P → IfOk r Q → ((x : X) → P x → Q x → R x) → IfOk r R
@@ -35,13 +40,33 @@ if_both (Ok x) p q both = both x p q
 if_both (Err e) p q both = tt
 
 module _ (script : Script) (kept : Keeps script) (plan : SessionPlan) (planned : script.sessions ≡ plan ∷ []) where
-  -- each line is of a client that the session has
-  pub lines_fit : (session : RunningSession) → IsOpened script plan session → All (CanFollow (vec_len session.clients)) plan.lines
-  lines_fit session opened k d within =
-      let keeps : KeepsPlan script plan = All-head (KeepsPlan script) plan [] (subst (λ plans. All (KeepsPlan script) plans) planned kept.sessions.plans) in
-      let built : All (λ line. IsBuiltAct line.act) plan.lines = subst (λ (plan : SessionPlan). All (λ line. IsBuiltAct line.act) plan.lines) (one_plan script kept plan planned) kept.built.acts in
-      let many : length (state_in session).clients ≡ length script.homes = ap (λ (state : RunState). length state.clients) opened.start ∙ (length-map (enumerate_from 0 script.homes) (λ placed. new_client [] placed.0 placed.1) ∙ length-enumerate_from 0 script.homes) in
-      record { declared = (let declared = (keeps.runs k d within).declared in let each = kept.homes.one_each in let seen = length-map session.clients.items client_seen in let counted = session.clients.ok.0 in omega (arith, declared, each, many, seen, counted)); act = built k d within }
+  module _ (session : RunningSession) (opened : IsOpened script plan session) where
+    -- the session has the nodes of the script
+    nodes_are : (store_in session.shelf).nodes ≡ first_nodes (length script.names.nodes)
+    nodes_are = ap (λ (s : PrefStore). s.nodes) (opened.store (record { base = (store_in session.shelf).base; answers = []; entries = []; file = Absent }) refl) ∙ nodes_numbered 0 script.names.nodes
+
+    names_node : (a : Act) → KeepsAct script.names.nodes a → NamesNode (store_in session.shelf).nodes a
+    names_node (act.Restart node) below = rw nodes_are (among_first (length script.names.nodes) node below)
+    names_node other keeps = tt
+
+    -- each line is of a client that the session has, and names its nodes
+    pub lines_fit : All (CanFollow (vec_len session.clients) (store_in session.shelf).nodes) plan.lines
+    lines_fit k d within =
+        let keeps : KeepsPlan script plan = All-head (KeepsPlan script) plan [] (subst (λ plans. All (KeepsPlan script) plans) planned kept.sessions.plans) in
+        let built : All (λ line. IsBuiltAct line.act) plan.lines = subst (λ (plan : SessionPlan). All (λ line. IsBuiltAct line.act) plan.lines) (one_plan script kept plan planned) kept.built.acts in
+        let many : length (state_in session).clients ≡ length script.homes =
+        ap (λ (state : RunState). length state.clients) opened.start ∙ (length-map (enumerate_from 0 script.homes) (λ placed. new_client [] placed.0 placed.1) ∙ length-enumerate_from 0 script.homes) in
+        let run = keeps.runs k d within in
+        record {
+          declared =
+              (let declared = run.declared in
+              let each = kept.homes.one_each in
+              let seen = length-map session.clients.items client_seen in
+              let counted = session.clients.ok.0 in
+              omega (arith, declared, each, many, seen, counted));
+          asked = built k d within;
+          named = names_node (get_or plan.lines k d).act run.act;
+        }
 
   module _ (told : SessionSeen) where
     abbrev c : Chapter

@@ -1,5 +1,6 @@
 -- The shelf of a script's first session, and the session that begins with it.
-use Rattle.std.proofs.Common.{◌≡◌, ◌∙◌, ◌<◌, ℕ, true, false, All, List, [], ◌∷◌, length, map, Option, None, refl, sym, ap, subst, arith}
+use Rattle.std.proofs.Common.{◌≡◌, ◌∙◌, ◌≤◌, ◌<◌, ℕ, true, false, All, List, [], ◌∷◌, length, map, Option, None, vec_len, refl, sym, ap, subst, arith}
+use Rattle.std.proofs.lemmas.List.{length-map}
 use Rattle.std.proofs.lemmas.List.Elements.{All-head, All-weaker}
 use Rattle.std.proofs.lemmas.List.FromFn.{length-map-range_with_len}
 use Rattle.store_traits.specs.declared.ids.NodeId.{NodeId}
@@ -16,6 +17,7 @@ use Rattle.prefs_proto.specs.Reads.{Reads}
 use Rattle.shelf.specs.declared.shelf.Shelf.{Shelf}
 use Rattle.shelf.specs.AddsNode.{is_among}
 use Rattle.shelf.specs.Base.{HasItsBase, ReadsAs}
+use Rattle.shelf.specs.DeathPlan.{DeathPlanSeen}
 use Rattle.shelf.specs.Opening.{Opens}
 use Rattle.shelf.specs.ShelfSeen.{ShelfSeen, shelf_seen}
 use Rattle.node_core.specs.Views.{world_seen}
@@ -24,7 +26,6 @@ use Rattle.script_lang.specs.declared.plan.script.Script.{Script}
 use Rattle.script_lang.specs.declared.plan.session_plan.SessionPlan.{SessionPlan}
 use Rattle.script_lang.specs.Chronicle.{due_of, nodes_of, tally_of}
 use Rattle.script_lang.specs.Keeps.{Keeps, KeepsPlan}
-use Rattle.script_lang.specs.SessionPlans.{IsWhole}
 use Rattle.replay_run.specs.declared.client.Client as own
 use Rattle.replay_run.specs.declared.prefs_parts.PrefsParts.{PrefsParts}
 use Rattle.replay_run.specs.declared.running_session.RunningSession.{RunningSession}
@@ -34,14 +35,14 @@ use Rattle.replay_run.specs.RunInvariant.{RunInvariant}
 use Rattle.replay_run.specs.RunState.{RunState}
 use Rattle.replay_run.specs.SessionInvariant.{SessionInvariant}
 use Rattle.replay_run.specs.SessionSteps.{IsOpened, IsStoreOf}
-use Rattle.replay_run.specs.SessionView.{EquippedIn, rules_in, state_in, store_in, world_in}
+use Rattle.replay_run.specs.SessionView.{EquippedIn, IsNamed, rules_in, state_in, store_in, world_in}
 use Rattle.replay_run.specs.Settings.{Change, PrefStore, ScriptFolder, Value}
 use Rattle.replay_run.specs.ShelfOpens.{ShelfOpens, first_nodes, with_nodes}
 use Rattle.replay_run.specs.Start.{start_of, world_of}
 use Rattle.replay_run.proofs.keeping.Failures.{plan_fails_within}
 use Rattle.replay_run.proofs.keeping.StepsKeep.{start_keeps}
 use Rattle.replay_run.proofs.session.ScriptGhosts.{ghosts}
-use Rattle.replay_run.proofs.session.OpeningLemmas.{among_first, homes_are, nodes_numbered}
+use Rattle.replay_run.proofs.session.OpeningLemmas.{among_first, homes_are, nodes_numbered, number_among}
 
 abbrev contents_of : ScriptFolder → Contents
 contents_of = ghosts.contents
@@ -59,9 +60,9 @@ no_raise : raises_of {V = Value} {T = Change} [] ≡ 0
 unfolding raises_of
 no_raise = refl
 
--- the shelf is that of a new folder, which has the script's file and fails by the plan
-module _ (script : Script) (plan : SessionPlan) (whole : IsWhole plan) (unreplaced : script.start.replace ≡ false) (shelf : SettingsShelf) (first : ScriptFolder) (base : BaseSeen Value)
-    (opens : Opens true (contents_of first) (tally_in first) 1048576 (record { entries = script.start.entries; weight = 268435456 }) base (shelf_seen shelf)) (starts : Starts (contents_of first) (contents_of shelf.folder))
+-- the shelf is that of a new folder, which has the script's file and fails by the plan, and of the plan's deaths
+module _ (script : Script) (plan : SessionPlan) (unreplaced : script.start.replace ≡ false) (shelf : SettingsShelf) (first : ScriptFolder) (base : BaseSeen Value) (dying : DeathPlanSeen) (planned : dying.planned ≡ plan.deaths) (left : dying.left ≡ plan.deaths)
+    (opens : Opens true (contents_of first) (tally_in first) 1048576 (record { entries = script.start.entries; weight = 268435456 }) dying base (shelf_seen shelf)) (starts : Starts (contents_of first) (contents_of shelf.folder))
     (tallies : StartsTally true (tally_in first) (tally_in shelf.folder)) (contents : contents_of first ≡ fresh_contents (main_of script.start.file)) (tally : tally_in first ≡ tally_of 0 plan)
     (reads : ReadsAs Reads [] 1048576 (contents_of first).main base) where
   abbrev s : PrefStore
@@ -76,6 +77,10 @@ module _ (script : Script) (plan : SessionPlan) (whole : IsWhole plan) (unreplac
   -- what bounds the count is told as the folder begins
   most_is : s.folder.most ≡ most_of 0 (due_of plan)
   most_is = tallies.most refl ∙ ap (λ (t : Tally). most_of t.count t.due) tally
+
+  -- all deaths of the plan are left
+  deaths_are : s.deaths ≡ plan.deaths
+  deaths_are = opens.planned ∙ planned
 
   -- a stop could leave nothing but main
   kept_alone : (contents_of first).kept ≡ Images ((contents_of first).main ∷ [])
@@ -94,7 +99,8 @@ module _ (script : Script) (plan : SessionPlan) (whole : IsWhole plan) (unreplac
       let due : (tally_in shelf.folder).due ≡ due_of plan = tallies.due refl ∙ ap (λ (t : Tally). t.due) tally in
       let most : (tally_in shelf.folder).most ≡ most_of s.folder.count (due_of plan) =
       tallies.most refl ∙ (ap (λ (t : Tally). most_of t.count t.due) tally ∙ ap (λ (n : ℕ). most_of n (due_of plan)) (sym count_is)) in
-      rw (main, scratch, kept, first_main, alone, count, most, due, opens.owner, opens.list, no_raise) refl
+      let deaths : (shelf_seen shelf).deaths ≡ s.deaths = opens.left ∙ (left ∙ sym deaths_are) in
+      rw (main, scratch, kept, first_main, alone, count, most, due, deaths, opens.owner, opens.list, no_raise) refl
 
   based : HasItsBase Reads [] s
   based = rw (opens.file, opens.main refl, opens.base_now) reads
@@ -102,7 +108,7 @@ module _ (script : Script) (plan : SessionPlan) (whole : IsWhole plan) (unreplac
   stores : IsStoreOf prefs_basis script plan (record s { nodes = nodes_of script })
   stores told same =
       let alone : s.alone ≡ true = (opens.alone refl).1 kept_alone in
-      rw (same, unreplaced, opens.file, opens.history, whole.deaths, main_is, count_is, most_is, alone) refl
+      rw (same, unreplaced, opens.file, opens.history, deaths_are, main_is, count_is, most_is, alone) refl
 
   pub shelf_opens : ShelfOpens prefs_basis script plan shelf
   shelf_opens = record { starts = world_starts; base = based; count = count_is; most = most_is; nodes = opens.nodes; store = stores }
@@ -135,6 +141,11 @@ module _ (script : Script) (plan : SessionPlan) (session : RunningSession) (firs
       let many : length store.nodes ≡ length script.names.nodes = ap (λ (s : Seen). length s.store.nodes) added ∙ (length-map-range_with_len (λ number. record { 0 = number }) 0 count ∙ counted) in
       subst (λ n. All (λ (home : NodeId). home.0 < n) script.homes) (sym many) keeps.homes.declared
 
+  many_caches : vec_len session.caches ≡ count
+  many_caches =
+      session.caches.ok.0
+      ∙ (sym (length-map session.caches.items kept_seen) ∙ (ap length empty ∙ (length-map (first_nodes count) (λ node. None) ∙ length-map-range_with_len (λ number. record { 0 = number }) 0 count)))
+
   none_failed : store.folder.count ≡ 0
   none_failed = ap (λ (s : Seen). s.store.folder.count) seen ∙ opens.count
 
@@ -151,6 +162,10 @@ module _ (script : Script) (plan : SessionPlan) (session : RunningSession) (firs
             (start_keeps (rules_in session.shelf) store [] (tally_of store.folder.count plan) script.homes refl (plan_fails_within store plan (rw none_failed omega arith) most_now kept.faults) numbers_at_home);
         number = unused ∙ sym (ap (λ (state : RunState). state.shared.world.version) starts_now);
         nodes = homes_are (λ (home : NodeId). is_among home store.nodes ≡ true) session.clients.items script.homes new.seen at_home;
+        places = λ node among. subst (λ n. node.0 < n) (sym many_caches) (number_among count node (subst (λ (s : Seen). is_among node s.store.nodes ≡ true) added among));
+        named =
+            All-weaker (λ (client : own.Client). vec_len client.asked ≤ 0) (λ (client : own.Client). All (IsNamed store.nodes) client.asked.items)
+            (λ client none k d within. absurd (omega (arith, none, within, client.asked.ok.0))) session.clients.items new.unasked;
         equipped =
             All-weaker (λ (client : own.Client). client.running ≡ None) (λ (client : own.Client). EquippedIn session.shelf client)
             (λ client none. rw none tt) session.clients.items new.rest;

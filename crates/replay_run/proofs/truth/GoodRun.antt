@@ -7,28 +7,24 @@ use Rattle.script_lang.specs.Keeps.{Keeps}
 use Rattle.script_lang.specs.declared.plan.script.Script.{Script}
 use Rattle.script_lang.specs.declared.plan.session_plan.SessionPlan.{SessionPlan}
 use Rattle.script_lang.specs.declared.transcripts.transcript.Transcript.{Transcript}
-use Rattle.script_lang.specs.SessionPlans.{IsWhole, lines_in}
+use Rattle.script_lang.specs.SessionPlans.{lines_in}
 use Rattle.script_lang.specs.TranscriptView.{SessionSeen}
 use Rattle.script_lang.proofs.GoodChapters.{ChapterIsGood, good_of_one, one_chapter}
 use Rattle.replay_run.specs.EndInvariant.{EndInvariant}
 use Rattle.replay_run.specs.Rounds.{EndsBy, Finishes}
 use Rattle.replay_run.specs.ScriptRun.{IsPlayed, Runs}
 use Rattle.replay_run.specs.SessionPlayed.{IsPlayedWell, first_chapter}
-use Rattle.replay_run.proofs.keeping.Living.{is_living}
 use Rattle.replay_run.proofs.truth.Told.{EndsWell}
 use Rattle.replay_run.proofs.truth.Rules.{chapter_good, none_of_actors}
 use Rattle.replay_run.proofs.truth.Underway.{run_keeps}
 
--- no node dies in the script's only session, and no stop ends it
+-- no stop ends the script's only session
 module _ (script : Script) (kept : Keeps script) (plan : SessionPlan) (planned : script.sessions ≡ plan ∷ []) where
   pub one_plan : kept.built.plan ≡ plan
   one_plan = let same : kept.built.plan ∷ [] ≡ plan ∷ [] = sym kept.built.only ∙ planned in cc
 
-  pub whole : IsWhole plan
-  whole = subst (λ plan. IsWhole plan) one_plan kept.built.whole
-
   pub unstopped : plan.stop ≡ None
-  unstopped = whole.stop
+  unstopped = ap (λ (plan : SessionPlan). plan.stop) (sym one_plan) ∙ kept.built.unstopped
 
   few : length plan.folder_faults ≤ 100000
   few =
@@ -51,8 +47,7 @@ module _ (script : Script) (kept : Keeps script) (plan : SessionPlan) (planned :
           over = finishes.over;
           tells = played.tells;
           underway = run_keeps script.homes plan.lines b.rules c.store (tally_of 0 plan) played.between played.end played.follows finishes;
-          living = is_living c.store whole.deaths b.rules played.end it.ends.state;
-          unplanned = whole.deaths;
+          deaths = refl;
           folder = refl;
           few = few;
           asked = refl;
@@ -76,6 +71,6 @@ good_end b script transcript kept runs ends = by_told transcript.sessions refl (
     by_told (told ∷ next ∷ more) tells one = absurd (omega (arith, one))
     by_told (told ∷ []) tells one =
         let plan = kept.built.plan in
-        let is : chapters_of b Scripted script transcript ≡ first_chapter b script plan told ∷ [] = one_chapter b script plan told transcript runs.names kept.built.only kept.built.whole.stop tells in
+        let is : chapters_of b Scripted script transcript ≡ first_chapter b script plan told ∷ [] = one_chapter b script plan told transcript runs.names kept.built.only kept.built.unstopped tells in
         let played = runs.played [] (first_chapter b script plan told) [] is in
         good_session script kept plan kept.built.only b told transcript runs.names tells (record { played = played; ends = ends told played })

@@ -1,18 +1,18 @@
 -- What the rules ask of the only session of a script, which goes well to its end.
 use Rattle.std.proofs.Common.{◌≡◌, ◌∙◌, inl, inr, ◌≤◌, ◌+◌, ◌-◌, ◌^◌, ◌||◌, min, ℕ, nat_lt, Bool, true, false, List, [], ◌∷◌, ◌++◌, cond, length, All, Contains, Option, Some, None, IfSome, MatchOption, count_by, is_some, if◌then◌else◌, refl, sym, ap, subst, arith}
 use Rattle.std.specs.List.{filter, list_any}
-use Rattle.std.proofs.lemmas.Bool.{and_right, ne_eqb}
+use Rattle.std.proofs.lemmas.Bool.{ne_eqb}
 use Rattle.std.proofs.lemmas.Bool.Decides.{nat_tests}
 use Rattle.std.proofs.lemmas.List.Sums.{sum_by-cons}
 use Rattle.std.proofs.lemmas.Option.{slice_get_cases}
 use Rattle.store_traits.specs.declared.ids.CallId.{CallId}
+use Rattle.store_traits.specs.declared.ids.NodeId.{NodeId}
 use Rattle.store_traits.specs.declared.read_error.ReadError.{ReadError}
 use Rattle.store_traits.specs.declared.update_error.UpdateError.{UpdateError}
 use Rattle.store_traits.specs.declared.ids.ClientId.{ClientId}
 use Rattle.folder_disk.specs.Planned.{left_to_strike}
 use Rattle.folder_disk.proofs.OrderLemmas.{length_in_order}
-use Rattle.hist_journal.specs.Kinds.{is_call}
-use Rattle.hist_journal.specs.declared.seen.KindSeen.TheVariants.{Fault, Restart}
+use Rattle.hist_journal.specs.declared.seen.KindSeen.TheVariants.{Fault}
 use Rattle.hist_journal.specs.declared.device.Device.TheVariants.{Folder, Legacy}
 use Rattle.prefs_text.specs.EntryText.{PrefEntry, PrefKind}
 use Rattle.prefs_text.specs.declared.seen.AnswerLineSeen.{AnswerLineSeen}
@@ -28,10 +28,10 @@ use Rattle.script_lang.specs.AnswerForms.{answers, is_cut, read_error, update_er
 use Rattle.script_lang.specs.Asked.{is_actor}
 use Rattle.script_lang.specs.Chronicle.{Basis, Chapter}
 use Rattle.script_lang.specs.GoodAnswers.{HasForm, IsAsked, IsHome, IsTold, is_answer_of}
-use Rattle.script_lang.specs.GoodCauses.{HasCauseBy, HasCauseOfRead, HasUpdateCause, IsCaused, IsOwnEdit, is_posted, may_stand}
+use Rattle.script_lang.specs.GoodCauses.{HasCauseBy, HasCauseOfRead, HasRestartCause, HasUpdateCause, IsCaused, IsOwnEdit, is_posted, may_stand}
 use Rattle.script_lang.specs.GoodPosts.{DoesJob, IsDoneBy}
 use Rattle.script_lang.specs.GoodReads.{GivesValue, KeepsFlow}
-use Rattle.script_lang.specs.GoodUpdates.{IsDone, has_restart, is_restart}
+use Rattle.script_lang.specs.GoodUpdates.{IsDone, has_restart}
 use Rattle.script_lang.specs.Shown.{last_flow, shown_to}
 use Rattle.script_lang.specs.declared.plan.run_line.Act.{Act}
 use Rattle.script_lang.specs.declared.plan.run_line.Act.TheVariants as act
@@ -39,13 +39,13 @@ use Rattle.script_lang.specs.declared.plan.script.Script.{Script}
 use Rattle.script_lang.specs.Good.{file_seen}
 use Rattle.script_lang.specs.GoodFailures.{IsPlanned, Spares, faults_of}
 use Rattle.script_lang.proofs.GoodChapters.{ChapterIsGood}
-use Rattle.replay_run.specs.ClientInvariant.{CarriesAsked, CarriesOwn, IsExplained, IsReadExplained, IsUpdateExplained}
+use Rattle.replay_run.specs.ClientInvariant.{CarriesAsked, CarriesOwn, IsExplained, IsReadExplained, IsRestartExplained, IsUpdateExplained, is_restarted}
 use Rattle.replay_run.specs.RunInvariant.{IsOfCall, is_later_work}
 use Rattle.replay_run.specs.RunState.{Client, call_at}
 use Rattle.replay_run.specs.Settings.{Change}
 use Rattle.replay_run.proofs.truth.Told.{EndsWell, IsTrueLine, answers_are, kept, none_stands, over, true_lines}
 use Rattle.replay_run.proofs.lists.StandLemmas.{Stands, all_at, contains_at, found_stands, stands_joined}
-use Rattle.replay_run.proofs.keeping.Living.{dies, is_folder_fault}
+use Rattle.replay_run.proofs.keeping.Deaths.{is_folder_fault}
 use Rattle.replay_run.proofs.lists.JoinedLemmas.{all_each}
 use Rattle.replay_run.proofs.truth.EachOnce.{each_once, filter_none}
 
@@ -61,10 +61,6 @@ module _ {E : Type 0} (P : E → Type 0) where
   error_holds : (o : Option E) → MatchOption o ⊥ P → IfSome o P
   error_holds None it = tt
   error_holds (Some err) it = it
-
-later_restarts : (kind : PrefKind) → is_later_work kind ≡ false → is_restart kind ≡ false
-later_restarts (Restart node) none = never (sym none)
-later_restarts other none = refl
 
 later_fails : (kind : PrefKind) → is_later_work kind ≡ false → is_fault_of Legacy kind ≡ false
 later_fails (Fault Legacy count) none = never (sym none)
@@ -83,14 +79,6 @@ module _ (b : Basis) (script : Script) (c : Chapter) (k : EndsWell b script c) w
   built : list_any (λ (e : PrefEntry). is_later_work e.kind) c.told.entries ≡ false
   built = rw k.tells.entries k.known.state.built
 
-  deaths_none : list_any dies c.told.entries ≡ false
-  deaths_none = rw k.tells.entries k.living.alive
-
-  -- no call restarts a node
-  restarts_none : (call : CallId) → has_restart call c.told.entries ≡ false
-  restarts_none call =
-      none_of_fewer (is_own is_restart call) (λ (e : PrefEntry). is_later_work e.kind) c.told.entries (λ e none. and_right (is_call call e.who) (is_restart e.kind) (later_restarts e.kind none)) built
-
   module _ (before : List AnswerLineSeen) (line : AnswerLineSeen) (behind : List AnswerLineSeen) (is : c.told.answers ≡ before ++ line ∷ behind) where
     abbrev it : IsTrueLine b script c c.told.entries before line
     it = true_lines b script c k before line behind is
@@ -107,7 +95,12 @@ module _ (b : Basis) (script : Script) (c : Chapter) (k : EndsWell b script c) w
     abbrev Caused : Act → AnswerSeen → Type 0
     Caused (act.Update edit) answer = IfSome (update_error answer) (UpdateCause edit)
     Caused act.Read answer = IfSome (read_error answer) ReadCause
+    Caused (act.Restart node) answer = HasRestartCause b c line.call node answer
     Caused other answer = ⊥
+
+    -- it has no Restart, unless it is answered by one
+    abbrev BringsNobody : AnswerSeen → Type 0
+    BringsNobody answer = is_restarted answer ≡ false → has_restart line.call c.told.entries ≡ false
 
     -- what the rules ask of an answer to a call for this
     record IsFine (asked : Act) (answer : AnswerSeen) : Type 0 where
@@ -119,73 +112,108 @@ module _ (b : Basis) (script : Script) (c : Chapter) (k : EndsWell b script c) w
       pub flow : KeepsFlow c (last_flow line.call.client None before) answer
       pub caused : Caused asked answer
 
-    fine_update : (edit : Change) → Contains c.asked (record { call = line.call; act = act.Update edit }) → (answer : AnswerSeen) → IsUpdateExplained b.rules c.store c.told.entries shown line.call edit answer → IsFine (act.Update edit) answer
-    fine_update edit asked (seen.Updated edition) told =
+    fine_update : (edit : Change) → Contains c.asked (record { call = line.call; act = act.Update edit }) → (answer : AnswerSeen) → IsUpdateExplained b.rules c.store c.told.entries shown line.call edit answer → BringsNobody answer → IsFine (act.Update edit) answer
+    fine_update edit asked (seen.Updated edition) told none =
         record {
           form = refl;
           uncut = refl;
           no_post = refl;
-          done = (record { edit = edit; carried = unposted _ _ line.poster it.poster asked; updated = told }, restarts_none line.call);
+          done = (record { edit = edit; carried = unposted _ _ line.poster it.poster asked; updated = told }, none refl);
           gives = tt;
           flow = tt;
           caused = tt;
         }
-    fine_update edit asked (seen.Read edition value) told = absurd told
-    fine_update edit asked (seen.Flow edition value) told = absurd told
-    fine_update edit asked (seen.Unchanged edition) told = absurd told
-    fine_update edit asked (seen.Restarted place) told = absurd told
-    fine_update edit asked seen.Posted told = absurd told
-    fine_update edit asked seen.Cut told = absurd told
-    fine_update edit asked other told =
+    fine_update edit asked (seen.Read edition value) told none = absurd told
+    fine_update edit asked (seen.Flow edition value) told none = absurd told
+    fine_update edit asked (seen.Unchanged edition) told none = absurd told
+    fine_update edit asked (seen.Restarted place) told none = absurd told
+    fine_update edit asked seen.Posted told none = absurd told
+    fine_update edit asked seen.Cut told none = absurd told
+    fine_update edit asked other told none =
         record {
           form = some_error (UpdateCause edit) (update_error other) (is_cut other) told;
           uncut = refl;
           no_post = refl;
-          done = restarts_none line.call;
+          done = none refl;
           gives = tt;
           flow = tt;
           caused = error_holds (UpdateCause edit) (update_error other) told;
         }
 
-    fine_read : (answer : AnswerSeen) → IsReadExplained b.rules c.store c.told.entries shown line.call answer → IsFine act.Read answer
-    fine_read (seen.Read edition value) told =
+    fine_read : (answer : AnswerSeen) → IsReadExplained b.rules c.store c.told.entries shown line.call answer → BringsNobody answer → IsFine act.Read answer
+    fine_read (seen.Read edition value) told none =
         record {
           form = refl;
           uncut = refl;
           no_post = refl;
-          done = restarts_none line.call;
+          done = none refl;
           gives = told;
           flow = tt;
           caused = tt;
         }
-    fine_read (seen.Updated edition) told = absurd told
-    fine_read (seen.Flow edition value) told = absurd told
-    fine_read (seen.Unchanged edition) told = absurd told
-    fine_read (seen.Restarted place) told = absurd told
-    fine_read seen.Posted told = absurd told
-    fine_read seen.Cut told = absurd told
-    fine_read other told =
+    fine_read (seen.Updated edition) told none = absurd told
+    fine_read (seen.Flow edition value) told none = absurd told
+    fine_read (seen.Unchanged edition) told none = absurd told
+    fine_read (seen.Restarted place) told none = absurd told
+    fine_read seen.Posted told none = absurd told
+    fine_read seen.Cut told none = absurd told
+    fine_read other told none =
         record {
           form = some_error ReadCause (read_error other) (is_cut other) told;
           uncut = refl;
           no_post = refl;
-          done = restarts_none line.call;
+          done = none refl;
           gives = tt;
           flow = tt;
           caused = error_holds ReadCause (read_error other) told;
         }
 
-    fine : (asked : Act) → Contains c.asked (record { call = line.call; act = asked }) → (answer : AnswerSeen) → IsExplained b.rules c.store c.told.entries shown line.call asked answer → IsFine asked answer
-    fine (act.Update edit) asked answer told = fine_update edit asked answer told
-    fine act.Read asked answer told = fine_read answer told
-    fine other asked answer told = absurd told
+    fine_restart : (node : NodeId) → Contains c.asked (record { call = line.call; act = act.Restart node }) → (answer : AnswerSeen) → IsRestartExplained b.rules c.store c.told.entries line.call node answer → BringsNobody answer → IsFine (act.Restart node) answer
+    fine_restart node asked (seen.Restarted place) told none =
+        record {
+          form = refl;
+          uncut = refl;
+          no_post = refl;
+          done = record { node = node; asked = asked; only = told };
+          gives = tt;
+          flow = tt;
+          caused = tt;
+        }
+    fine_restart node asked seen.NotDead told none =
+        record {
+          form = refl;
+          uncut = refl;
+          no_post = refl;
+          done = none refl;
+          gives = tt;
+          flow = tt;
+          caused = told;
+        }
+    fine_restart node asked (seen.Died place) told none =
+        record {
+          form = refl;
+          uncut = refl;
+          no_post = refl;
+          done = none refl;
+          gives = tt;
+          flow = tt;
+          caused = told;
+        }
+    fine_restart node asked other told none = absurd told
+
+    fine : (asked : Act) → Contains c.asked (record { call = line.call; act = asked }) → (answer : AnswerSeen) → IsExplained b.rules c.store c.told.entries shown line.call asked answer → BringsNobody answer → IsFine asked answer
+    fine (act.Update edit) asked answer told none = fine_update edit asked answer told none
+    fine act.Read asked answer told none = fine_read answer told none
+    fine (act.Restart node) asked answer told none = fine_restart node asked answer told none
+    fine other asked answer told none = absurd told
 
     abbrev answer : IsFine it.act line.answer
-    answer = fine it.act it.asked line.answer it.explained
+    answer = fine it.act it.asked line.answer it.explained it.restarts
 
     has_cause : (asked : Act) → Caused asked line.answer → HasCauseBy b c before line asked
     has_cause (act.Update edit) is = is
     has_cause act.Read is = is
+    has_cause (act.Restart node) is = is
     has_cause other is = absurd is
 
     is_told : IsTold script line
@@ -240,7 +268,7 @@ module _ (b : Basis) (script : Script) (c : Chapter) (k : EndsWell b script c) w
     entry_asked = record { act = truth.act; asked = subst (λ call. Contains c.asked (record { call = call; act = truth.act })) answered.own truth.asked; fits = tt }
 
     entry_lives : is_death e.kind ≡ true → IsPlanned c.plan.deaths before e.who
-    entry_lives dead = never (sym (none_stands dies c.told.entries before behind e deaths_none is) ∙ dead)
+    entry_lives dead = subst (λ planned. IsPlanned planned before e.who) k.deaths (k.known.state.deaths before e behind (sym k.tells.entries ∙ is) dead)
 
     module _ (update : is_update e.kind ≡ true) where
       mine : is_own is_update line.call e ≡ true
@@ -268,10 +296,6 @@ module _ (b : Basis) (script : Script) (c : Chapter) (k : EndsWell b script c) w
       own_edit =
           own_by truth.act truth.asked
           (all_at (λ e. is_own is_update line.call e ≡ true → CarriesAsked truth.act e.kind) before e behind (subst (λ list. CarriesOwn line.call truth.act list) is truth.carried) mine)
-
-  spares : (call : CallId) (answer : AnswerSeen) → Spares c call answer
-  spares call (seen.Updated edition) = record { passed = rw k.unplanned refl; written = λ edits. rw k.unplanned refl }
-  spares call other = tt
 
   -- the count of faults has not come to its end, and tells them all
   faults_planned : c.plan.fuse ≡ None → faults_of c ≤ length c.plan.folder_faults
@@ -310,7 +334,7 @@ module _ (b : Basis) (script : Script) (c : Chapter) (k : EndsWell b script c) w
         jobs = record { jobs = no_job; all = λ unstopped. not_posted };
         plans =
             record {
-              deaths = record { deaths = entry_lives; spared = λ before line behind is. spares line.call line.answer };
+              deaths = record { deaths = entry_lives; spared = λ before line behind is. subst (λ planned. Spares planned c.told.entries line.call line.answer) k.deaths (it before line behind is).spared };
               faults = record { folder = faults_planned; legacy = old_faults_none };
             };
         file = rw k.tells.entries (k.tells.file ∙ ap (file_seen b.file_limit) k.known.main);

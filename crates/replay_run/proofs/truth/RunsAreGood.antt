@@ -19,4 +19,4 @@ runs_good script transcript kept typed runs =
     let all : All (λ (line : RunLine). IsTypedAct line.act) plan.lines =
     All-head (λ (p : SessionPlan). All (λ (line : RunLine). IsTypedAct line.act) p.lines) plan [] (subst (λ (sessions : List SessionPlan). All (λ p. All (λ (line : RunLine). IsTypedAct line.act) p.lines) sessions) kept.built.only typed) in
     let faults = (All-head (KeepsPlan script) plan [] (subst (λ (sessions : List SessionPlan). All (KeepsPlan script) sessions) kept.built.only kept.sessions.plans)).faults in
-    good_end prefs_basis script transcript kept runs (λ told played. first_ends script plan told kept.built.whole faults all kept.homes.declared [] played)
+    good_end prefs_basis script transcript kept runs (λ told played. first_ends script plan told faults all kept.homes.declared [] played)

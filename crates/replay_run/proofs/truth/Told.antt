@@ -21,16 +21,17 @@ use Rattle.script_lang.specs.Asked.{asked_by, home_of, is_actor}
 use Rattle.script_lang.specs.Chronicle.{Basis, Chapter, due_of}
 use Rattle.script_lang.specs.GoodAnswers.{IsHome}
 use Rattle.script_lang.specs.GoodCauses.{may_stand}
+use Rattle.script_lang.specs.GoodFailures.{Spares}
+use Rattle.script_lang.specs.GoodUpdates.{has_restart}
 use Rattle.script_lang.specs.Shown.{printed, shown_to}
 use Rattle.script_lang.specs.declared.plan.run_line.Act.{Act}
 use Rattle.script_lang.specs.declared.plan.script.Script.{Script}
-use Rattle.replay_run.specs.ClientInvariant.{CarriesOwn, ClientInvariant, IsExplained}
+use Rattle.replay_run.specs.ClientInvariant.{CarriesOwn, ClientInvariant, IsExplained, is_restarted}
 use Rattle.replay_run.specs.EndInvariant.{EndInvariant}
 use Rattle.replay_run.specs.Lines.{acts_for}
 use Rattle.replay_run.specs.Rounds.{IsOver}
 use Rattle.replay_run.specs.RunState.{Client, RunState, call_at}
 use Rattle.replay_run.specs.ScriptRun.{Tells, lines_of}
-use Rattle.replay_run.proofs.keeping.Living.{Living}
 use Rattle.replay_run.proofs.keeping.StepsKeep.{all_answered}
 use Rattle.replay_run.proofs.lists.JoinedLemmas.{all_each}
 use Rattle.replay_run.proofs.truth.AskedInOrder.{asked_for, own_call}
@@ -83,6 +84,8 @@ module _ (b : Basis) (script : Script) (c : Chapter) where
     pub late : IfSome (printed line.answer) (λ edition. shown_to line.call.client list before ≤ edition)
     pub none : may_stand line.answer ≡ false → list_any (is_own is_update line.call) list ≡ false
     pub carried : CarriesOwn line.call act list
+    pub restarts : is_restarted line.answer ≡ false → has_restart line.call list ≡ false
+    pub spared : Spares c.store.deaths list line.call line.answer
     pub in_order : list_any (is_later line.call.client.0) before ≡ false
 
 -- the session went to its end, and all was kept
@@ -92,8 +95,7 @@ pub record EndsWell (b : Basis) (script : Script) (c : Chapter) : Type 0 where
   pub over : IsOver end
   pub tells : Tells b c.told end
   pub underway : AreUnderWay script.homes c.plan.lines [] end
-  pub living : Living end.shared.world
-  pub unplanned : c.plan.deaths ≡ []
+  pub deaths : c.store.deaths ≡ c.plan.deaths
   -- no call of the folder had failed before, and few are planned to
   pub folder : c.store.folder ≡ record { count = 0; most = most_of 0 (due_of c.plan) }
   pub few : length c.plan.folder_faults ≤ 100000
@@ -172,6 +174,8 @@ module _ (b : Basis) (script : Script) (c : Chapter) (k : EndsWell b script c) w
           late = subst (λ shown. IfSome (printed line.answer) (λ edition. shown ≤ edition)) (sym shown) truth.late;
           none = truth.none;
           carried = truth.carried;
+          restarts = truth.restarts;
+          spared = truth.spared;
           in_order =
               ap (λ (call : CallId). list_any (is_later call.client.0) (others ++ before)) call
               ∙ none_in_both (is_later place) others before (list_any_none (is_later place) others (told_by (nat_lt place) false (λ n. n < place) (λ n less. grind (arith, nat_tests, less)) others earlier))

@@ -15,6 +15,7 @@ use Rattle.replay_run.proofs.keeping.RunKeeps.{rounds_keep}
 use Rattle.replay_run.proofs.lists.OptionLemmas.{none_at, one_of_it}
 use Rattle.replay_run.proofs.lists.SetLemmas.{set_same}
 use Rattle.replay_run.proofs.unique.OneStep.{IsOneState, both_same, steps_once}
+use Rattle.replay_run.proofs.work.RunLemmas.{brings_none}
 
 -- where nobody has anything to do, nothing changes any more
 module _ (r : PrefRules) {M : Type 0} (s : Store Value M) where
@@ -24,10 +25,11 @@ module _ (r : PrefRules) {M : Type 0} (s : Store Value M) where
 
   step_over : (place : ℕ) (old new : RunState) → IsOver old → StepsAt r s place old new → new ≡ old
   step_over place old new over it =
-      let same = idle_by (act_now it.client) it.client it.client_after (record { world = old.shared.world; kept = it.kept }) (record { world = new.shared.world; kept = it.kept_after }) (none_at is_busy old.clients place it.client over it.was) it.steps in
+      let idle : is_busy it.client ≡ false = none_at is_busy old.clients place it.client over it.was in
+      let same = idle_by (act_now it.client) it.client it.client_after (record { world = old.shared.world; kept = it.kept }) (record { world = new.shared.world; kept = it.kept_after }) idle it.steps in
       let world : new.shared.world ≡ old.shared.world = ap (λ (view : NodeView). view.world) same.1 in
       let caches : new.shared.caches ≡ old.shared.caches =
-      it.caches ∙ (ap (λ (view : NodeView). slice_set old.shared.caches it.client.node.0 view.kept) same.1 ∙ set_same old.shared.caches it.client.node.0 it.kept it.cache) in
+      it.caches ∙ (brings_none it.client it.client_after (slice_set old.shared.caches it.client.node.0 it.kept_after) idle ∙ ap (λ (view : NodeView). slice_set old.shared.caches it.client.node.0 view.kept) same.1 ∙ set_same old.shared.caches it.client.node.0 it.kept it.cache) in
       let clients : new.clients ≡ old.clients = it.now ∙ (ap (λ (c : Client). slice_set old.clients place c) same.0 ∙ set_same old.clients place it.client it.was) in
       rw (world, caches, clients) refl
 

@@ -4,7 +4,6 @@ use Rattle.prefs_model.specs.declared.pref_pair.PrefPair.{PrefPair}
 use Rattle.script_lang.specs.declared.plan.run_line.Act.{Act}
 use Rattle.script_lang.specs.declared.plan.run_line.Act.TheVariants as act
 use Rattle.shelf.specs.declared.store.Store.{Store}
-use Rattle.step_table.specs.Calls.{Update}
 use Rattle.step_table.proofs.OneTurn.{ComesTo, one_turn}
 use Rattle.replay_run.specs.Answering.{behind_turn}
 use Rattle.replay_run.specs.RunState.{Client, NodeView, RunState, act_now, call_now}
@@ -51,7 +50,8 @@ module _ (r : PrefRules) {M : Type 0} (s : Store Value M) (read_once : (bytes : 
     read_once_by (Some call) a b = turn_once call a b
 
     steps_by : (at : Option Act) → StepsBy r s at client old client_x x → StepsBy r s at client old client_y y → IsOne client_x client_y x y
-    steps_by (Some (act.Update edit)) a b = turn_once (call_now client (Update edit)) a b
+    steps_by (Some (act.Update edit)) a b = turn_once (call_now client (act.Update edit)) a b
+    steps_by (Some (act.Restart node)) a b = turn_once (call_now client (act.Restart node)) a b
     steps_by (Some act.Read) a b = read_once_by client.running a b
     steps_by (Some other) a b = absurd a
     steps_by None a b = record { client = a.0 ∙ sym b.0; view = a.1 ∙ sym b.1; told = stays a.1 }
@@ -66,7 +66,7 @@ module _ (r : PrefRules) {M : Type 0} (s : Store Value M) (read_once : (bytes : 
       let one = steps_by a.client a.client_after b.client_after (record { world = old.shared.world; kept = a.kept }) (record { world = x.shared.world; kept = a.kept_after }) (record { world = y.shared.world; kept = b.kept_after }) told
       (act_now a.client) a.steps also in
       let world : x.shared.world ≡ y.shared.world = ap (λ (view : NodeView). view.world) one.view in
-      let caches : x.shared.caches ≡ y.shared.caches =
-      a.caches ∙ (ap (λ (view : NodeView). slice_set old.shared.caches a.client.node.0 view.kept) one.view ∙ (ap (λ (c : Client). slice_set old.shared.caches c.node.0 b.kept_after) (sym client) ∙ sym b.caches)) in
+      let kept_after : a.kept_after ≡ b.kept_after = ap (λ (view : NodeView). view.kept) one.view in
+      let caches : x.shared.caches ≡ y.shared.caches = rw (a.caches, b.caches, client, one.client, kept_after) refl in
       let clients : x.clients ≡ y.clients = a.now ∙ (ap (λ (c : Client). slice_set old.clients place c) one.client ∙ sym b.now) in
       record { same = rw (world, caches, clients) refl; told = one.told }

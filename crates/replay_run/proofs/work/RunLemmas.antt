@@ -1,5 +1,5 @@
 -- Runs grow at their end: by a step, a round, a line.
-use Rattle.std.proofs.Common.{◌≡◌, ◌≤◌, ◌<◌, ◌+◌, ◌-◌, ℕ, suc, zero, false, List, [], ◌∷◌, ◌++◌, length, Option, Some, None, is_some, slice_get, refl, sym, subst, arith}
+use Rattle.std.proofs.Common.{◌≡◌, ◌∙◌, ◌≤◌, ◌<◌, ◌+◌, ◌-◌, ℕ, suc, zero, false, List, [], ◌∷◌, ◌++◌, length, Option, Some, None, is_some, slice_get, slice_set, refl, sym, ap, subst, arith}
 use Rattle.script_lang.specs.declared.plan.run_line.Act.{Act}
 use Rattle.script_lang.specs.declared.plan.run_line.RunLine.{RunLine}
 use Rattle.shelf.specs.declared.store.Store.{Store}
@@ -7,10 +7,19 @@ use Rattle.shelf.proofs.Bools.{never}
 use Rattle.replay_run.specs.Lines.{Follows, FollowsAll, StepsTimes}
 use Rattle.replay_run.specs.Rounds.{Round, Rounds, StepsEach}
 use Rattle.replay_run.specs.RunState.{Client, NodeView, RunState, act_now, is_busy}
-use Rattle.replay_run.specs.Settings.{PrefRules, Value}
-use Rattle.replay_run.specs.Steps.{ClientSteps, StepsAt}
+use Rattle.replay_run.specs.Settings.{PrefCached, PrefRules, Value}
+use Rattle.replay_run.specs.Steps.{ClientSteps, StepsAt, brought_back, emptied}
+use Rattle.replay_run.proofs.keeping.StepsKeep.{IsNoRestart, none_back}
 use Rattle.replay_run.proofs.lists.OptionLemmas.{there}
 use Rattle.replay_run.proofs.lists.SetLemmas.{set_same}
+
+-- a client that has nothing to do brings no node back
+pub brings_none : (client client_after : Client) (caches : List (Option PrefCached)) → is_busy client ≡ false → emptied (brought_back client client_after) caches ≡ caches
+brings_none client client_after caches idle = ap (λ back. emptied back caches) (none_back client client_after (act_now client) refl (by_act (act_now client) idle))
+  where
+    by_act : (at : Option Act) → is_some at ≡ false → IsNoRestart at
+    by_act (Some act) busy = never (sym busy)
+    by_act None idle = tt
 
 module _ (r : PrefRules) {M : Type 0} (s : Store Value M) where
   times_push : (place n : ℕ) (old mid new : RunState) → StepsTimes r s place n old mid → StepsAt r s place mid new → StepsTimes r s place (suc n) old new
@@ -51,7 +60,7 @@ module _ (r : PrefRules) {M : Type 0} (s : Store Value M) where
         was = found;
         cache = kept.1;
         steps = by_act _ (act_now client) refl idle;
-        caches = sym (set_same state.shared.caches client.node.0 kept.0 kept.1);
+        caches = sym (brings_none client client (slice_set state.shared.caches client.node.0 kept.0) idle ∙ set_same state.shared.caches client.node.0 kept.0 kept.1);
         now = sym (set_same state.clients place client found);
       }
     where

@@ -1,43 +1,47 @@
-ghost use Rattle.std.specs.Prelude.{◌≡◌, ◌≤◌, ◌<◌, ◌+◌, Some, None, IfOk, OnOk, option_map, slice_get, vec_len};
+ghost use Rattle.std.specs.Prelude.{◌≡◌, ◌≤◌, ◌<◌, ◌+◌, Option, Some, None, IfOk, OnOk, option_map, slice_get, vec_len};
 ghost use Rattle.hist_journal.specs.Folds.{raises_of};
 ghost use Rattle.shelf.specs.ShelfSeen.{shelf_seen};
 ghost use Rattle.step_table.specs.Caching.{found};
-ghost use Rattle.step_table.specs.Calls.{Update};
+ghost use Rattle.script_lang.specs.declared.plan.run_line.Act.TheVariants.{Restart, Update};
+ghost use Rattle.value_cache.specs.declared.cache.Cache.{Cache};
 ghost use Rattle.value_cache.specs.Cached.{cached_seen, kept_seen};
 ghost use Rattle.replay_run.specs.Answering.{behind_look};
-ghost use Rattle.replay_run.specs.ClientSteps.{IsAnswered, MayGo, MayTurn, Spares};
+ghost use Rattle.replay_run.specs.ClientSteps.{IsAnswered, MayGo, MayRestart, MayTurn, Restarts, Spares};
 ghost use Rattle.replay_run.specs.RunState.{new_call};
 ghost use Rattle.replay_run.specs.RunningSteps.{reply_seen};
 ghost use Rattle.replay_run.specs.SessionView.{EquippedIn, client_seen, rules_in, running_seen, store_in, view_in};
+ghost use Rattle.replay_run.specs.Settings.{PrefCached, Value};
 ghost use Rattle.replay_run.specs.TrueCaches.{StaysTrue};
-ghost use Rattle.replay_run.specs.Steps.{ClientSteps, TakesTurn, kept_behind};
+ghost use Rattle.replay_run.specs.Steps.{ClientSteps, TakesTurn, answer_given, brought_back, kept_behind, restarted_by};
 
 use super::{Client, Settings};
 use crate::answering::answer_of;
 use crate::running::{Reply, Running};
 use crate::task::Task;
-use node_core::{Progress, ReadCall, UpdateCall};
+use node_core::{Progress, ReadCall, UpdateCall, restart};
 use prefs_edit::Edit;
 use prefs_model::PrefMap;
 use prefs_text::AnswerLine;
 use shelf::Shelf;
 use std::alloc::{AllocError, Global};
-use store_traits::{CallId, PlainWord, Word};
+use store_traits::{CallId, NodeId, PlainWord, Word};
 use value_cache::{Cache, CachedValue};
 
 impl<'s> Client<'s> {
-    /// Does a step, if there is something to do. The cache is that of its node.
+    /// Does a step, if there is something to do, and tells which node it brought back, if it did. The cache is that of the
+    /// client's own node.
     pub(crate) fn go(
         &mut self,
         alloc: Global,
         shelf: &mut Shelf<Settings>,
         word: &mut PlainWord,
         cache: &mut Cache<PrefMap>,
-    ) -> Result<(), AllocError>
+    ) -> Result<Option<NodeId>, AllocError>
         requires number { word.old ≡ raises_of (shelf_seen shelf.old).list }
         requires may { MayGo self.old shelf.old }
         requires few { vec_len self.old.asked ≤ 100000 }
         ensures steps { OnOk result (ClientSteps (rules_in shelf.old) (store_in shelf.old) (client_seen self.old) (view_in shelf.old cache.old) (client_seen self.new) (view_in shelf.new cache.new)) }
+        ensures back { IfOk result (λ back. back ≡ brought_back (client_seen self.old) (client_seen self.new)) }
         ensures equipped { OnOk result (EquippedIn shelf.new self.new) }
         ensures spares { Spares self.old shelf.old shelf.new }
         ensures kept { self.new ≡ record self.old { running = self.new.running; answered = self.new.answered } }
@@ -47,16 +51,24 @@ impl<'s> Client<'s> {
         ensures cache { StaysTrue shelf.old shelf.new cache.old cache.new }
     {
         let Some(task) = self.task_now() else {
-            return Ok(());
+            return Ok(None);
         };
         match self.running.take() {
-            Some(call) => self.turn(alloc, shelf, word, cache, call),
+            Some(call) => {
+                self.turn(alloc, shelf, word, cache, call)?;
+                Ok(None)
+            }
             None => match task {
                 Task::Update(edit) => {
                     let call = self.new_update(alloc, edit)?;
-                    self.turn(alloc, shelf, word, cache, call)
+                    self.turn(alloc, shelf, word, cache, call)?;
+                    Ok(None)
                 }
-                Task::Read => self.look(cache, word.load()),
+                Task::Read => {
+                    self.look(cache, word.load())?;
+                    Ok(None)
+                }
+                Task::Restart(node) => self.restart(alloc, shelf, node),
             },
         }
     }
@@ -124,6 +136,30 @@ impl<'s> Client<'s> {
                 Ok(())
             }
         }
+    }
+
+    /// A node is brought back in one turn, and named if it was dead.
+    fn restart(
+        &mut self,
+        alloc: Global,
+        shelf: &mut Shelf<Settings>,
+        node: NodeId,
+    ) -> Result<Option<NodeId>, AllocError>
+        requires may { MayRestart self.old node shelf.old }
+        requires few { vec_len self.old.answered < 100000 }
+        ensures steps { OnOk result ((kept : Option PrefCached) → Restarts node self.old shelf.old kept self.new shelf.new) }
+        ensures back { IfOk result (λ back. back ≡ restarted_by (Some (Restart node)) (answer_given (client_seen self.old) (client_seen self.new))) }
+        ensures spares { Spares self.old shelf.old shelf.new }
+        ensures kept { self.new ≡ record self.old { answered = self.new.answered } }
+        ensures store { store_in shelf.new ≡ store_in shelf.old }
+        ensures codec { shelf.new.codec ≡ shelf.old.codec }
+        ensures raises { raises_of (shelf_seen shelf.new).list ≡ raises_of (shelf_seen shelf.old).list }
+        ensures caches { (cache : Cache Value) → StaysTrue shelf.old shelf.new cache cache }
+    {
+        let answer = restart(alloc, shelf, self.next_call(), node);
+        let back = answer.is_ok().then_some(node);
+        self.end(Reply::Restarted(answer))?;
+        Ok(back)
     }
 
     /// The call goes on.

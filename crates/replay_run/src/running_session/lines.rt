@@ -2,7 +2,7 @@ ghost use Rattle.std.specs.Prelude.{◌≡◌, ◌<◌, ◌≤◌, ◌+◌, ℕ,
 ghost use Rattle.replay_run.specs.Lines.{Asks, Follows, FollowsAll};
 ghost use Rattle.replay_run.specs.SessionInvariant.{AsksFew, SessionInvariant};
 ghost use Rattle.replay_run.specs.SessionSteps.{CanFollow};
-ghost use Rattle.replay_run.specs.SessionView.{rules_in, state_in, store_in, task_seen};
+ghost use Rattle.replay_run.specs.SessionView.{IsNamed, rules_in, state_in, store_in, task_seen};
 
 use super::RunningSession;
 use crate::task::Task;
@@ -14,7 +14,7 @@ impl<'s> RunningSession<'s> {
     pub(crate) fn follow(&mut self, alloc: Global, lines: &'s [RunLine]) -> Result<(), AllocError>
         requires keeps { SessionInvariant self.old }
         requires asked { AsksFew 0 self.old }
-        requires lines { All (CanFollow (vec_len self.old.clients)) lines.now }
+        requires lines { All (CanFollow (vec_len self.old.clients) (store_in self.old.shelf).nodes) lines.now }
         requires few { length lines.now ≤ 100000 }
         ensures follows { OnOk result (FollowsAll (rules_in self.old.shelf) (store_in self.old.shelf) lines.now (state_in self.old) (state_in self.new)) }
         ensures keeps { OnOk result (SessionInvariant self.new) }
@@ -30,7 +30,7 @@ impl<'s> RunningSession<'s> {
     fn follow_line(&mut self, alloc: Global, line: &'s RunLine) -> Result<(), AllocError>
         requires keeps { SessionInvariant self.old }
         requires few { AsksFew 100000 self.old }
-        requires line { CanFollow (vec_len self.old.clients) line.now }
+        requires line { CanFollow (vec_len self.old.clients) (store_in self.old.shelf).nodes line.now }
         ensures follows { OnOk result (Follows (rules_in self.old.shelf) (store_in self.old.shelf) line.now.client.0 line.now.act (state_in self.old) (state_in self.new)) }
         ensures keeps { OnOk result (SessionInvariant self.new) }
         ensures few { OnOk result ((most : ℕ) → AsksFew most self.old → AsksFew (most + 1) self.new) }
@@ -41,9 +41,10 @@ impl<'s> RunningSession<'s> {
         match &line.act {
             Act::Update(edit) => self.ask(place, Task::Update(edit)),
             Act::Read => self.ask(place, Task::Read),
+            Act::Restart(node) => self.ask(place, Task::Restart(*node)),
             Act::Go(steps) => self.go_times(alloc, place, *steps),
             // No line says these yet.
-            Act::Flow | Act::Post(_) | Act::Restart(_) => unreachable!(),
+            Act::Flow | Act::Post(_) => unreachable!(),
         }
     }
 
@@ -51,6 +52,7 @@ impl<'s> RunningSession<'s> {
     fn ask(&mut self, place: usize, task: Task<'s>) -> Result<(), AllocError>
         requires keeps { SessionInvariant self.old }
         requires within { place < vec_len self.old.clients }
+        requires named { IsNamed (store_in self.old.shelf).nodes task }
         ensures asks { OnOk result (Asks place (task_seen task.entry) (state_in self.old) (state_in self.new)) }
         ensures keeps { OnOk result (SessionInvariant self.new) }
         ensures few { OnOk result ((most : ℕ) → AsksFew most self.old → AsksFew (most + 1) self.new) }

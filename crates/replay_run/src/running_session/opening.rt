@@ -3,7 +3,6 @@ ghost use Rattle.prefs_proto.specs.Reads.{Reads};
 ghost use Rattle.shelf.specs.Base.{HasItsBase};
 ghost use Rattle.shelf.specs.ShelfSeen.{shelf_seen};
 ghost use Rattle.script_lang.specs.Keeps.{Keeps};
-ghost use Rattle.script_lang.specs.SessionPlans.{IsWhole};
 ghost use Rattle.value_cache.specs.Cached.{kept_seen};
 ghost use Rattle.replay_run.specs.NewClients.{AreNew};
 ghost use Rattle.replay_run.specs.PrefsBasis.{prefs_basis};
@@ -20,7 +19,7 @@ use hist_journal::Bounds;
 use prefs_model::PrefMap;
 use prefs_proto::PrefsCodec;
 use script_lang::{Script, SessionPlan};
-use shelf::{AddNodeError, Setup, Shelf};
+use shelf::{AddNodeError, DeathPlan, Setup, Shelf};
 use std::alloc::{AllocError, Global};
 use store_traits::{ClientId, NodeId, PlainWord};
 use value_cache::Cache;
@@ -53,13 +52,12 @@ impl<'s> RunningSession<'s> {
     }
 }
 
-/// The folder has the script's file and fails by the plan, and the base is what the file reads as.
+/// The folder has the script's file and fails by the plan, nodes die by it, and the base is what the file reads as.
 fn open_shelf(
     alloc: Global,
     script: &Script,
     plan: &SessionPlan,
 ) -> Result<Shelf<Settings>, AllocError>
-    requires whole { IsWhole plan.now }
     requires unreplaced { script.now.start.replace ≡ false }
     ensures { IfOk result (ShelfOpens prefs_basis script.now plan.now) }
 {
@@ -71,10 +69,12 @@ fn open_shelf(
         entries: script.start.entries,
         weight: WEIGHT_LIMIT,
     };
+    let deaths = plan.deaths.as_slice().to_vec(alloc)?;
     let setup = Setup {
         codec: PrefsCodec,
         limit: FILE_LIMIT,
         bounds,
+        deaths: DeathPlan::new(alloc, deaths)?,
     };
     let folder = FuseFolder::new(folder, plan.fuse);
     Ok(Shelf::new(alloc, setup, base, folder))

@@ -1,15 +1,19 @@
-ghost use Rattle.std.specs.Prelude.{◌≡◌, ◌<◌, ◌⊎◌, OnOk, vec_len};
+ghost use Rattle.std.specs.Prelude.{◌≡◌, ◌<◌, ◌⊎◌, IfSome, OnOk, map, vec_len};
 ghost use Rattle.std.specs.List.{list_any};
+ghost use Rattle.value_cache.specs.Cached.{kept_seen};
 ghost use Rattle.replay_run.specs.Lines.{StepsTimes};
 ghost use Rattle.replay_run.specs.Rounds.{Finishes, IsOver, Round};
 ghost use Rattle.replay_run.specs.RunState.{is_busy};
 ghost use Rattle.replay_run.specs.SessionInvariant.{AskedAlike, AsksFew, SessionInvariant};
 ghost use Rattle.replay_run.specs.SessionView.{client_seen, rules_in, state_in, store_in};
-ghost use Rattle.replay_run.specs.Steps.{StepsAt};
+ghost use Rattle.replay_run.specs.Steps.{StepsAt, emptied};
 ghost use Rattle.replay_run.specs.WorkLeft.{work_left};
 
 use super::RunningSession;
+use prefs_model::PrefMap;
 use std::alloc::{AllocError, Global};
+use store_traits::NodeId;
+use value_cache::Cache;
 
 impl<'s> RunningSession<'s> {
     /// The client at this place does a step, if it has something to do.
@@ -24,7 +28,9 @@ impl<'s> RunningSession<'s> {
     {
         let client = &mut self.clients[place];
         let cache = &mut self.caches[client.node().0 as usize];
-        client.go(alloc, &mut self.shelf, &mut self.word, cache)
+        let back = client.go(alloc, &mut self.shelf, &mut self.word, cache)?;
+        forget(&mut self.caches, back);
+        Ok(())
     }
 
     /// It does so many steps, as long as it has something to do.
@@ -86,5 +92,15 @@ impl<'s> RunningSession<'s> {
         ensures { result ≡ list_any (λ client. is_busy (client_seen client)) self.now.clients.items }
     {
         self.clients.iter().any(|client| client.is_busy())
+    }
+}
+
+/// The cache of a node that was brought back keeps nothing any more.
+fn forget(caches: &mut Vec<Cache<PrefMap>>, back: Option<NodeId>)
+    requires { IfSome back (λ node. node.0 < vec_len caches.old) }
+    ensures { map kept_seen caches.new.items ≡ emptied back (map kept_seen caches.old.items) }
+{
+    if let Some(node) = back {
+        caches[node.0 as usize].empty();
     }
 }

@@ -7,6 +7,7 @@ use crate::{Line, Mode, RunLine, Script, Series, SessionPlan, Start};
 use folder_disk::{MainRead, Planned};
 use prefs_text::Names;
 use script_words::is_reserved;
+use shelf::PlannedDeath;
 use std::alloc::{AllocError, Global};
 use store_traits::NodeId;
 
@@ -25,6 +26,7 @@ pub struct Draft {
     pub(crate) faults: Series<Planned>,
     /// None before a line says it.
     pub(crate) fuse: Option<u64>,
+    pub(crate) deaths: Series<PlannedDeath>,
     pub(crate) lines: Series<RunLine>,
     /// Whether no `node` and no `client` line may follow.
     pub(crate) is_closed: bool,
@@ -50,6 +52,7 @@ impl Draft {
             entries: None,
             faults: Series::new(alloc),
             fuse: None,
+            deaths: Series::new(alloc),
             lines: Series::new(alloc),
             is_closed: false,
         }
@@ -90,7 +93,7 @@ impl Draft {
         self.is_closed
     }
 
-    /// Whether no call of the folder can be planned to fail.
+    /// Whether no call of the folder can be planned to fail, and no node to die.
     pub(crate) fn bars_faults(&self) -> bool
         ensures { IsTrue result ↔ self.now.mode ≡ Nodes }
     {
@@ -119,6 +122,7 @@ impl Draft {
             mut entries,
             mut faults,
             mut fuse,
+            mut deaths,
             mut lines,
             mut is_closed,
         } = self;
@@ -139,6 +143,10 @@ impl Draft {
                 fuse = Some(shorter_of(fuse, left));
                 is_closed = closed;
             }
+            Line::Die(death) => {
+                deaths.push(death)?;
+                is_closed = closed;
+            }
             Line::Run(line) => {
                 lines.push(line)?;
                 is_closed = closed;
@@ -153,6 +161,7 @@ impl Draft {
             entries,
             faults,
             fuse,
+            deaths,
             lines,
             is_closed,
         })
@@ -165,7 +174,7 @@ impl Draft {
         let plan = SessionPlan {
             folder_faults: self.faults,
             fuse: self.fuse,
-            deaths: Series::new(alloc),
+            deaths: self.deaths,
             lines: self.lines,
             stop: None,
         };

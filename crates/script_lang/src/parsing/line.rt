@@ -1,6 +1,7 @@
 use crate::RunLine;
 use folder_disk::{MainRead, Planned};
 use hist_journal::PrefName;
+use shelf::PlannedDeath;
 use store_traits::NodeId;
 
 /// What a line of a script says.
@@ -20,6 +21,8 @@ pub enum Line {
     Fault(Planned),
     /// After so many calls of the folder each fails.
     Fuse(u64),
+    /// A call that kills its node before such a step.
+    Die(PlannedDeath),
     /// A call, or steps of a client.
     Run(RunLine),
 }

@@ -1,4 +1,5 @@
 ghost use Rattle.std.specs.Prelude.{IfOk, IfErr};
+ghost use Rattle.script_lang.specs.Draft.{HasHomes};
 ghost use Rattle.script_lang.specs.Keeps.{Keeps};
 ghost use Rattle.script_lang.specs.Meaning.{Means, IsRefusalOf};
 ghost use Rattle.script_lang.specs.Reading.{GoesOn, StopsAt};
@@ -35,6 +36,7 @@ pub fn parse_script(alloc: Global, bytes: &[u8], mode: Mode) -> Result<Script, S
 
 /// The draft once the line with this number is read.
 fn next_draft(alloc: Global, draft: Draft, number: u64, line: &[u8]) -> Result<Draft, ScriptError>
+    requires { HasHomes draft }
     ensures ok { IfOk result (GoesOn draft number line.now) }
     ensures err { IfErr result (StopsAt draft number line.now) }
 {

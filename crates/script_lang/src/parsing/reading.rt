@@ -1,9 +1,11 @@
 //! One line of a script, in its place.
 ghost use Rattle.std.specs.Prelude.{◌↔◌, ◌≤◌, IsTrue, length};
 ghost use Rattle.script_words.specs.Words.{texts_at};
+ghost use Rattle.script_lang.specs.Draft.{HasHomes};
 ghost use Rattle.script_lang.specs.Reading.{ReadsLine, ReadsRow, ReadsWords, TestsLine};
 ghost use Rattle.script_lang.specs.Rows.{keyword, IsSkipped};
 
+use super::death_rows::read_die;
 use super::fault_rows::{read_fault, read_fuse};
 use super::name_rows::{read_client, read_node};
 use super::run_rows::{read_call, read_go};
@@ -25,6 +27,7 @@ pub(crate) fn read_line(
     number: u64,
     line: &[u8],
 ) -> Result<Line, ScriptFault>
+    requires { HasHomes draft.now }
     ensures { ReadsLine draft.now number line.now result }
 {
     let text = text_of(number, line)?;
@@ -63,7 +66,8 @@ fn is_skipped(line: &str) -> bool
 
 /// What a line with these words says.
 fn read_words(alloc: Global, draft: &Draft, words: &[&str]) -> Result<Line, ScriptFault>
-    requires { 1 ≤ length words.now }
+    requires some { 1 ≤ length words.now }
+    requires homes { HasHomes draft.now }
     ensures { ReadsWords draft.now (texts_at words.now) result }
 {
     let first = words[0];
@@ -82,6 +86,7 @@ fn read_row(
     word: LineWord,
     behind: &[&str],
 ) -> Result<Line, ScriptFault>
+    requires { HasHomes draft.now }
     ensures { ReadsRow draft.now (keyword word (texts_at behind.now)) result }
 {
     match word {
@@ -91,8 +96,10 @@ fn read_row(
         LineWord::Client => read_client(alloc, draft, behind),
         LineWord::Fault => read_fault(draft, behind),
         LineWord::Fuse => read_fuse(draft, behind),
+        LineWord::Die => read_die(draft, behind),
         LineWord::Go => read_go(draft, behind),
-        LineWord::Handler | LineWord::Legacy | LineWord::Migrate | LineWord::Die | LineWord::Stop =>
-            Err(ScriptFault::UnknownWord),
+        LineWord::Handler | LineWord::Legacy | LineWord::Migrate | LineWord::Stop => {
+            Err(ScriptFault::UnknownWord)
+        }
     }
 }

@@ -47,7 +47,7 @@ pub(crate) fn read_call(
     if !is_name(first) {
         return Err(ScriptFault::UnknownWord);
     }
-    let act = call_of(alloc, behind)?;
+    let act = call_of(alloc, draft, behind)?;
     let Some(client) = draft.clients.find(first) else {
         return Err(ScriptFault::UnknownName);
     };

@@ -32,6 +32,8 @@ pub fn untrue_updates()
     ensures edition_too_high { Untrue G3 example.two_nodes (example.told untrue.edition_too_high) }
     ensures synced_left_out { Untrue G3 example.two_nodes (example.told untrue.synced_left_out) }
     ensures edits_exchanged { Untrue G3 example.two_sets (example.told untrue.edits_exchanged) }
+    ensures restart_denied { Untrue G3 example.restart (example.told untrue.restart_denied) }
+    ensures restarted_another { Untrue G3 untrue.restart_of_the_first (example.told untrue.restarted_another) }
     ensures restarted_elsewhere { Untrue G3 example.restart (example.told untrue.restarted_elsewhere) }
 {}
 
@@ -75,6 +77,8 @@ pub fn untrue_causes()
     ensures died { Untrue G6 example.two_nodes (example.told uncaused.died) }
     ensures read_died { Untrue G6 example.update_then_read (example.told uncaused.read_died) }
     ensures died_elsewhere { Untrue G6 example.restart (example.told uncaused.died_elsewhere) }
+    ensures former_life { Untrue G6 example.restart (example.told uncaused.former_life) }
+    ensures died_before_update { Untrue G6 uncaused.late_read (example.told uncaused.died_before_update) }
     ensures full { Untrue G6 example.two_posts (example.told uncaused.full) }
     ensures full_at_first { Untrue G6 example.two_posts (example.told uncaused.full_at_first) }
     ensures not_dead { Untrue G6 uncaused.late_restart (example.told uncaused.not_dead) }
@@ -95,6 +99,9 @@ pub fn untrue_jobs()
 pub fn untrue_failures()
     ensures death_unplanned { Untrue G8 example.two_nodes (example.told untrue.death_unplanned) }
     ensures death_left_out { Untrue G8 untrue.death_left_out (example.told example.two_nodes_told) }
+    ensures first_death_left_out { Untrue G8 untrue.first_death_left_out (example.told example.two_nodes_told) }
+    ensures death_planned_writing { Untrue G8 untrue.death_planned_writing (example.told untrue.death_unplanned) }
+    ensures death_planned_raising { Untrue G8 untrue.death_planned_raising (example.told untrue.death_behind_raise) }
     ensures fault_unplanned { Untrue G8 untrue.fault_unplanned (example.told example.sync_failed_told) }
 {}
 

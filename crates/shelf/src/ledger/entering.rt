@@ -4,6 +4,7 @@ ghost use Rattle.hist_journal.specs.declared.seen.KindSeen.TheVariants.{Fault};
 ghost use Rattle.hist_journal.specs.Kinds.{is_change};
 ghost use Rattle.hist_journal.specs.View.{kind_seen};
 ghost use Rattle.shelf.specs.Ledger.{freed, ledger_seen, freed_room, is_inner, Enters};
+ghost use Rattle.shelf.specs.NodeStates.{living};
 
 use super::Ledger;
 use hist_journal::{Device, Entry, Kind};
@@ -27,7 +28,7 @@ impl<V: Drop, T: Drop> Ledger<V, T> {
 
     /// Adds a Fault of the folder with this count, and frees the lock if this call owns it. Answers the place of the entry.
     pub fn add_fault(&mut self, call: CallId, count: u64) -> u64
-        requires room { freed_room call self.old.lock self.old.reserved + length self.old.nodes + 1 ≤ self.old.journal.room }
+        requires room { freed_room call self.old.lock self.old.reserved + living self.old.nodes + 1 ≤ self.old.journal.room }
         ensures place { result ≡ length self.old.journal.list + 1 }
         ensures entry { Enters call (Fault Folder count ∷ []) 0 (freed call self.old.lock) (freed_room call self.old.lock self.old.reserved) (ledger_seen self.old) (ledger_seen self.new) }
     {

@@ -1,9 +1,9 @@
-ghost use Rattle.std.specs.Prelude.{◌≡◌, ◌≢◌, ◌+◌, ◌-◌, ◌≤◌, ◌++◌, ◌∷◌, [], Some, None, true, false, length, OnOk, ◌↔◌};
+ghost use Rattle.std.specs.Prelude.{◌≡◌, ◌≢◌, ◌+◌, ◌-◌, ◌≤◌, ◌∷◌, [], Some, None, true, OnOk, ◌↔◌};
 ghost use Rattle.file_lock.specs.Owner.{IsAnother};
 ghost use Rattle.hist_journal.specs.declared.seen.KindSeen.TheVariants.{Inited};
 ghost use Rattle.hist_journal.specs.Quiet.{pending};
 ghost use Rattle.shelf.specs.Ledger.{freed, ledger_seen, freed_room, Enters};
-ghost use Rattle.shelf.specs.NodeStates.{has_node};
+ghost use Rattle.shelf.specs.NodeStates.{has_node, living};
 ghost use Rattle.hist_journal.specs.Nodes.{is_ready};
 ghost use Rattle.shelf.specs.Takes.{most_entries, needs_lock, TakeRow};
 
@@ -23,7 +23,7 @@ const MOST_OF_UPDATE: u16 = 3;
 const MOST_OF_READ: u16 = 1;
 
 impl<V: Drop, T: Drop> Ledger<V, T> {
-    /// Takes the lock, with room for the most entries that this holding can add, beside the room of each node's Death. A
+    /// Takes the lock, with room for the most entries that this holding can add, beside the room of each living node's next Death. A
     /// read of a node that is initialised is held up by no bound, and goes on without the lock where another call owns it.
     pub fn take(&mut self, call: CallId, want: Want) -> Taken
         ensures { TakeRow call want result (ledger_seen self.old) (ledger_seen self.new) }
@@ -44,7 +44,7 @@ impl<V: Drop, T: Drop> Ledger<V, T> {
         }
         let is_ready = self.nodes.is_ready(call.node);
         let most = most_entries(want, is_ready);
-        match self.journal.reserve(self.nodes.len() + u32::from(most)) {
+        match self.journal.reserve(self.nodes.living() + u32::from(most)) {
             Ok(()) => {
                 self.lock.try_lock(call);
                 self.reserved = most;
@@ -77,14 +77,15 @@ impl<V: Drop, T: Drop> Ledger<V, T> {
     /// Makes room for one entry of a call, beside all that is kept for others, also where the history is full. The owner of
     /// the lock has it already, where it may still add an entry.
     pub fn make_room(&mut self, call: CallId) -> Result<(), AllocError>
-        ensures room { OnOk result (freed_room call self.old.lock self.old.reserved + length self.old.nodes + 1 ≤ self.new.journal.room) }
+        ensures room { OnOk result (freed_room call self.old.lock self.old.reserved + living self.old.nodes + 1 ≤ self.new.journal.room) }
         ensures same { ledger_seen self.new ≡ ledger_seen self.old }
+        ensures nodes { self.new.nodes ≡ self.old.nodes }
     {
         if self.reserved >= 1 && self.is_owner(call) {
             return Ok(());
         }
         self.journal
-            .reserve_past(u32::from(self.reserved) + self.nodes.len() + 1)
+            .reserve_past(u32::from(self.reserved) + self.nodes.living() + 1)
     }
 
     /// Frees the lock, if this call owns it.

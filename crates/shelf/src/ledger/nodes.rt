@@ -1,5 +1,6 @@
-ghost use Rattle.std.specs.Prelude.{◌≡◌, ◌++◌, ◌∷◌, [], None, true, false, OnOk, IfErr};
+ghost use Rattle.std.specs.Prelude.{◌≡◌, [], None, OnOk, IfErr};
 ghost use Rattle.hist_journal.specs.Journal.{KeepsHistory};
+ghost use Rattle.hist_journal.specs.Nodes.{is_ready};
 ghost use Rattle.hist_journal.specs.View.{base_seen};
 ghost use Rattle.shelf.specs.AddsNode.{AddsNode, RefusesNode};
 ghost use Rattle.shelf.specs.Ledger.{ledger_seen};
@@ -37,7 +38,7 @@ impl<V: Drop, T: Drop> Ledger<V, T> {
             return Err(AddNodeError::Exists);
         }
         self.journal
-            .reserve_past(u32::from(self.reserved) + self.nodes.len() + 1)?;
+            .reserve_past(u32::from(self.reserved) + self.nodes.living() + 1)?;
         self.nodes.add(node)?;
         Ok(())
     }
@@ -58,6 +59,13 @@ impl<V: Drop, T: Drop> Ledger<V, T> {
         ensures { result ≡ self.now.lock }
     {
         self.lock.owner()
+    }
+
+    /// The node is initialised.
+    pub fn is_ready(&self, node: NodeId) -> bool
+        ensures { result ≡ is_ready node self.now.journal.list }
+    {
+        self.nodes.is_ready(node)
     }
 
     /// How many value changes the history has.

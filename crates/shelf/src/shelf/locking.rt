@@ -1,11 +1,12 @@
-ghost use Rattle.std.specs.Prelude.{◌≡◌, [], false, None};
-ghost use Rattle.shelf.specs.Deaths.{has_died};
-ghost use Rattle.shelf.specs.LastRaise.{ends_in_raise};
+ghost use Rattle.std.specs.Prelude.{◌≡◌, ◌∷◌, [], true, false, IsTrue};
+ghost use Rattle.hist_journal.specs.declared.seen.KindSeen.TheVariants as kind;
+ghost use Rattle.shelf.specs.AddsNode.{is_among};
+ghost use Rattle.shelf.specs.Deaths.{has_died, turn_step};
+ghost use Rattle.shelf.specs.Dying.{BeginRow};
 ghost use Rattle.shelf.specs.ShelfSeen.{shelf_seen};
-ghost use Rattle.shelf.specs.ShelfTurns.{IsRaised, Adds, Frees};
+ghost use Rattle.shelf.specs.ShelfTurns.{IsRaised, Frees, May};
 ghost use Rattle.shelf.specs.Takes.{TakeRow};
 ghost use Rattle.shelf.specs.Ledger.{ledger_seen};
-ghost use Rattle.shelf.specs.WritingSteps.{is_writing};
 
 use super::Shelf;
 use crate::{Parts, Taken, Want};
@@ -13,15 +14,22 @@ use std::alloc::Global;
 use store_traits::{CallId, Step};
 
 impl<P: Parts> Shelf<P> {
-    /// Whether a death ends the call before this step: the place of the Death. `since` is how many entries there were when
-    /// the call's earliest turn began, if that is past. No death is planned yet, so none comes.
+    /// The death test of a turn: the place of the Death that ends the call, if one does. Its node has died, since its earliest
+    /// turn began or for good, and nothing changes; or a death is planned for this step, which kills the node now. `since` is
+    /// how many entries there were when the call's earliest turn began, if that is past. A first turn is told as `U1` or
+    /// `V2`, and is taken as `I1` where the node is not initialised.
     pub fn begin(&mut self, call: CallId, step: Step, since: Option<u64>) -> Option<u64>
-        requires step { is_writing step ≡ ends_in_raise call false (shelf_seen self.old).list }
-        ensures none { result ≡ None }
-        ensures lives { has_died call.node since self.new.ledger.journal.list ≡ false }
-        ensures same { shelf_seen self.new ≡ shelf_seen self.old }
+        requires node { is_among call.node (shelf_seen self.old).store.nodes ≡ true }
+        requires lawful { IsTrue P.F.told → has_died call.node since (shelf_seen self.old).list ≡ false → May P.T.after call (kind.Death call.node ∷ []) (shelf_seen self.old) }
+        ensures { BeginRow call step since result (shelf_seen self.old) (shelf_seen self.new) }
     {
-        let _turn = (call, step, since);
+        if let Some(at) = self.ledger.death_since(call.node, since) {
+            return Some(at);
+        }
+        let step = turn_step(step, self.ledger.is_ready(call.node));
+        if self.deaths.strike(call, step) {
+            return Some(self.ledger.die(call));
+        }
         None
     }
 
@@ -29,6 +37,7 @@ impl<P: Parts> Shelf<P> {
     /// held up by no bound, and goes on without the lock where another call owns it.
     pub fn take(&mut self, alloc: Global, call: CallId, want: Want) -> Taken
         ensures row { TakeRow call want result (ledger_seen self.old.ledger) (ledger_seen self.new.ledger) }
+        ensures deaths { self.new.deaths ≡ self.old.deaths }
         ensures codec { self.new.codec ≡ self.old.codec }
         ensures folder { self.new.folder ≡ self.old.folder }
         ensures store { (shelf_seen self.new).store ≡ (shelf_seen self.old).store }
@@ -44,5 +53,15 @@ impl<P: Parts> Shelf<P> {
         ensures folder { self.new.folder ≡ self.old.folder }
     {
         self.ledger.free(call);
+    }
+}
+
+/// The step that a turn is: a first turn of a node that is not initialised begins to initialise it.
+fn turn_step(step: Step, is_ready: bool) -> Step
+    ensures { result ≡ turn_step is_ready step }
+{
+    match step {
+        Step::U1 | Step::V2 if !is_ready => Step::I1,
+        _ => step,
     }
 }

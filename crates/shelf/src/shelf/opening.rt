@@ -1,4 +1,4 @@
-ghost use Rattle.std.specs.Prelude.{◌≡◌, ◌<◌, ◌≤◌, ◌^◌, ◌++◌, ◌∷◌, [], None, false, IsTrue, OnOk, IfErr, IfSome};
+ghost use Rattle.std.specs.Prelude.{◌≡◌, ◌<◌, ◌≤◌, ◌^◌, ◌++◌, ◌∷◌, [], false, IsTrue, OnOk, IfErr, IfSome};
 ghost use Rattle.hist_journal.specs.Folds.{edition_of};
 ghost use Rattle.hist_journal.specs.View.{base_seen};
 ghost use Rattle.folder_disk.specs.Contents.{Starts};
@@ -21,7 +21,7 @@ impl<P: Parts> Shelf<P> {
     pub fn new(alloc: Global, setup: Setup<P>, base: Base<ValueOf<P>>, mut folder: P::F) -> Shelf<P>
         requires limit { setup.limit < 2 ^ 63 }
         requires base { IsTrue P.F.told → ReadsAs (P.C.reads setup.codec) (P.C.default_of setup.codec) setup.limit (P.F.contents folder).main (base_seen base) }
-        ensures shelf { Opens P.F.told (P.F.contents folder) (P.F.tally folder) setup.limit setup.bounds (base_seen base) (shelf_seen result) }
+        ensures shelf { Opens P.F.told (P.F.contents folder) (P.F.tally folder) setup.limit setup.bounds setup.deaths (base_seen base) (shelf_seen result) }
         ensures codec { result.codec ≡ setup.codec }
         ensures folder { IsTrue P.F.told → Starts (P.F.contents folder) (P.F.contents result.folder) }
         ensures tally { StartsTally P.F.told (P.F.tally folder) (P.F.tally result.folder) }
@@ -34,6 +34,7 @@ impl<P: Parts> Shelf<P> {
             folder,
             limit: setup.limit,
             first_faults,
+            deaths: setup.deaths,
             ledger: Ledger::new(alloc, base, setup.bounds),
         }
     }

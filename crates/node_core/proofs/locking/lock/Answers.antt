@@ -7,17 +7,17 @@ use Rattle.node_core.proofs.locking.lock.Goals.{in-HistoryFull, in-NoMemory}
 
 pub returns-in-Init-clause-ok : goal.returns-in-Init-clause-ok
 returns-in-Init-clause-ok g c =
-    λ ask is. let e = c.in-Init.ensures in takes_lock c.args.origin ask c.args.shelf.now c.take.new.self e.codec e.folder e.store false (rw (← is) at e.row)
+    λ ask is. let e = c.in-Init.ensures in takes_lock c.args.origin ask c.args.shelf.now c.take.new.self e.deaths e.codec e.folder e.store false (rw (← is) at e.row)
 
 pub returns-in-Held-clause-ok : goal.returns-in-Held-clause-ok
 returns-in-Held-clause-ok g c =
-    λ ask is. let e = c.in-Held.ensures in takes_lock c.args.origin ask c.args.shelf.now c.take.new.self e.codec e.folder e.store true (rw (← is) at e.row)
+    λ ask is. let e = c.in-Held.ensures in takes_lock c.args.origin ask c.args.shelf.now c.take.new.self e.deaths e.codec e.folder e.store true (rw (← is) at e.row)
 
 pub returns-in-Unlocked-clause-ok : goal.returns-in-Unlocked-clause-ok
 returns-in-Unlocked-clause-ok g c =
     λ ask is.
     let e = c.in-Unlocked.ensures in
-    unlocked g.P.C.Codec g.P.T.Transform g.P.F.Folder c.args.origin ask _ _ e.row.0 (stays c.args.shelf.now c.take.new.self e.codec e.folder e.store e.row.2) (rw is e.row.1)
+    unlocked g.P.C.Codec g.P.T.Transform g.P.F.Folder c.args.origin ask _ _ e.row.0 (stays c.args.shelf.now c.take.new.self e.deaths e.codec e.folder e.store e.row.2) (rw is e.row.1)
 
 pub returns-in-Unlocked-clause-unlocked : goal.returns-in-Unlocked-clause-unlocked
 returns-in-Unlocked-clause-unlocked g c = λ same. is_read _ _ c.in-Unlocked.ensures.row.1
@@ -26,12 +26,12 @@ pub returns-in-Blocked-clause-ok : goal.returns-in-Blocked-clause-ok
 returns-in-Blocked-clause-ok g c =
     λ ask is.
     let e = c.in-Blocked.ensures in
-    blocks g.P.C.Codec g.P.T.Transform g.P.F.Folder c.args.origin ask _ _ e.row.0 (stays c.args.shelf.now c.take.new.self e.codec e.folder e.store e.row.2) (rw is e.row.1)
+    blocks g.P.C.Codec g.P.T.Transform g.P.F.Folder c.args.origin ask _ _ e.row.0 (stays c.args.shelf.now c.take.new.self e.deaths e.codec e.folder e.store e.row.2) (rw is e.row.1)
 
 pub returns-clause-err : goal.returns-clause-err
 returns-clause-err g c =
     λ ask is.
-    let stayed = stays c.args.shelf.now c.take.new.self c.take.ensures.codec c.take.ensures.folder c.take.ensures.store in
+    let stayed = stays c.args.shelf.now c.take.new.self c.take.ensures.deaths c.take.ensures.codec c.take.ensures.folder c.take.ensures.store in
     elim c.match-take.branch [
       | in-HistoryFull w ↦
           let row = rw (← is) at w.in-HistoryFull.ensures.row in
@@ -49,15 +49,15 @@ returns-in-Held-clause-spares g c = λ other owned unlike. absurd (c.in-Held.ens
 
 pub returns-in-Unlocked-clause-spares : goal.returns-in-Unlocked-clause-spares
 returns-in-Unlocked-clause-spares g c =
-    let e = c.in-Unlocked.ensures in same_spares g.P.C.Codec g.P.T.Transform g.P.F.Folder c.args.origin (stays c.args.shelf.now c.take.new.self e.codec e.folder e.store e.row.2)
+    let e = c.in-Unlocked.ensures in same_spares g.P.C.Codec g.P.T.Transform g.P.F.Folder c.args.origin (stays c.args.shelf.now c.take.new.self e.deaths e.codec e.folder e.store e.row.2)
 
 pub returns-in-Blocked-clause-spares : goal.returns-in-Blocked-clause-spares
 returns-in-Blocked-clause-spares g c =
-    let e = c.in-Blocked.ensures in same_spares g.P.C.Codec g.P.T.Transform g.P.F.Folder c.args.origin (stays c.args.shelf.now c.take.new.self e.codec e.folder e.store e.row.2)
+    let e = c.in-Blocked.ensures in same_spares g.P.C.Codec g.P.T.Transform g.P.F.Folder c.args.origin (stays c.args.shelf.now c.take.new.self e.deaths e.codec e.folder e.store e.row.2)
 
 pub returns-clause-spares : goal.returns-clause-spares
 returns-clause-spares g c =
-    let stayed = stays c.args.shelf.now c.take.new.self c.take.ensures.codec c.take.ensures.folder c.take.ensures.store in
+    let stayed = stays c.args.shelf.now c.take.new.self c.take.ensures.deaths c.take.ensures.codec c.take.ensures.folder c.take.ensures.store in
     let same : shelf_seen c.take.new.self ≡ shelf_seen c.args.shelf.now = elim c.match-take.branch [ in-HistoryFull w ↦ stayed w.in-HistoryFull.ensures.row.3 | in-NoMemory w ↦ stayed w.in-NoMemory.ensures.row.1 ] in
     then_spares g.P.C.Codec g.P.T.Transform g.P.F.Folder c.args.origin (ap (λ (s : ShelfSeen _ _ _ _). s.owner) same)
     (same_spares g.P.C.Codec g.P.T.Transform g.P.F.Folder c.args.origin same)

@@ -11,7 +11,7 @@ pub unreachable-requires : goal.unreachable-requires
 unreachable-requires g c = never_waits _ _ _ _ c.before.step.ensures.steps.turn c.loop-answer.invariant.alone.owner (ap replied c.in-Blocked.is)
 
 pub returns-in-Ended-clause-free : goal.returns-in-Ended-clause-free
-returns-in-Ended-clause-free g c = frees _ _ _ _ c.before.step.ensures.steps.turn c.loop-answer.invariant.alone.owner _ (ap replied c.in-Ended.is)
+returns-in-Ended-clause-free g c = frees _ _ _ _ c.before.step.ensures.steps.turn c.loop-answer.invariant.alone.owner c.loop-answer.invariant.alone.lives _ (ap replied c.in-Ended.is)
 
 pub returns-in-Ended-clause-adds : goal.returns-in-Ended-clause-adds
 returns-in-Ended-clause-adds g c =

@@ -1,61 +1,53 @@
-use Rattle.std.proofs.Common.{◌≡◌, ◌∙◌, false, length, ap}
-use Rattle.std.proofs.Math.Logic.{∥∥₁_elim, ∥∥₁_map}
-use Rattle.hist_journal.specs.Journal.{JournalSeen}
-use Rattle.shelf.specs.ShelfSeen.{ShelfSeen, shelf_seen}
-use Rattle.shelf.proofs.BaseSets.{base_set}
-use Rattle.shelf.proofs.DeathLemmas.{has_not_died}
-use Rattle.shelf.proofs.ReadingLemmas.{value_is}
-use Rattle.step_table.specs.Calls.{Update, replied}
+use Rattle.std.proofs.Common.{◌≡◌, ◌∙◌, Some, false, length, sym, true}
+use Rattle.std.proofs.Math.Logic.{∥∥₁_map}
+use Rattle.store_traits.specs.declared.update_error.UpdateError.TheVariants.{Died}
+use Rattle.shelf.specs.Dying.{BeginRow, LivesOn}
+use Rattle.shelf.specs.ShelfSeen.{shelf_seen}
+use Rattle.step_table.specs.Calls.{Failed, Gone, Update, replied, step_at}
+use Rattle.step_table.specs.declared.progress.Progress.TheVariants.{Ended}
 use Rattle.node_core.specs.Phases.{is_holding}
-use Rattle.node_core.specs.Reading.{ReadsTruly}
-use Rattle.node_core.specs.Ready.{rules_seen}
 use Rattle.node_core.specs.Step.{SparesRoom}
-use Rattle.node_core.specs.Views.{state_seen, world_seen}
-use Rattle.node_core.proofs.ReadyLemmas.{ready_now, writes_either}
-use Rattle.node_core.proofs.TurnLemmas.{StepGives, begun, ready_begun, step_gives, update_locks, waits_spare}
+use Rattle.node_core.specs.Views.{state_seen}
+use Rattle.node_core.proofs.DyingTurns.{dead_publishes, dead_raises, dead_steps, may_die}
+use Rattle.node_core.proofs.ReadyLemmas.{ready_now}
+use Rattle.node_core.proofs.ShelfReads.{reads_truly}
+use Rattle.node_core.proofs.TurnLemmas.{StepGives, begun, begun_is, gives_of, ready_begun, step_gives, update_locks, waits_spare}
 use Rattle.node_core.proofs.update_call.UpdateCall.step.Goals as goal
 
--- the turn began among the entries that there are
-origin_is : (g : _) (c : goal.After-work-arg-3-1 g) → c.begin-2.new.self.origin ≡ begun c.args.self.now.origin (length c.args.shelf.now.ledger.journal.list)
-origin_is g c =
-    c.begin-2.ensures.origin
-    ∙ ap (begun c.args.self.now.origin) (c.len.ensures ∙ (ap (λ (journal : JournalSeen g.row.P-C-Value.Denot g.row.P-T.Denot). length journal.list) c.journal.ensures ∙ ap (λ (s : ShelfSeen _ _ _ _). length s.list) c.begin.ensures.same))
-
-pub begin-requires : goal.begin-requires
-begin-requires g c =
-    let ready = ready_now g.P.C.Codec g.P.T.Transform g.P.F.Folder c.args.self.now.origin _ _ c.requires.may (has_not_died _ _ _ c.args.shelf.now.ledger.no_deaths) in
-    record { step = rw (c.step_where.ensures, writes_either _ _) ready.knows.last }
+pub begin-death-requires-clause-lawful : goal.begin-death-requires-clause-lawful
+begin-death-requires-clause-lawful g c = λ told alive. may_die g.P.C.Codec g.P.T.Transform g.P.F.Folder c.args.self.now.origin _ _ c.requires.may alive
 
 pub work-requires-clause-ready : goal.work-requires-clause-ready
 work-requires-clause-ready g c =
-    let ready = ready_now g.P.C.Codec g.P.T.Transform g.P.F.Folder c.args.self.now.origin _ _ c.requires.may (has_not_died _ _ _ c.args.shelf.now.ledger.no_deaths) in
-    rw (origin_is g c, c.begin-2.ensures.state, c.begin.ensures.same) (ready_begun g.P.C.Codec g.P.T.Transform g.P.F.Folder c.args.self.now.origin _ _ ready)
+    let on = c.in_default.ensures in
+    let origin : c.begin.new.self.origin ≡ begun c.args.self.now.origin (length c.args.shelf.now.ledger.journal.list) = begun_is c.args.self.now.origin _ _ _ _ c.begin.ensures.origin c.len-entries.ensures c.journal.ensures in
+    rw (origin, c.begin.ensures.state, on.same)
+    (ready_begun g.P.C.Codec g.P.T.Transform g.P.F.Folder c.args.self.now.origin _ _ (ready_now g.P.C.Codec g.P.T.Transform g.P.F.Folder c.args.self.now.origin _ _ c.requires.may on.lives))
 
--- main reads as the value of the history
-truly : (g : _) (c : goal.After-work g) → ReadsTruly (rules_seen g.P.C.Codec g.P.T.Transform g.P.F.Folder (shelf_seen c.args.shelf.now)) (shelf_seen c.args.shelf.now).store (world_seen g.P.F.Folder (shelf_seen c.args.shelf.now))
-truly g c =
-    let s = c.args.shelf.now in
-    λ told base reads.
-    ∥∥₁_elim s.kept (base_set g.row.P-C-Value.coded _ _) (λ kept. value_is _ _ _ s.low_limit (g.met.P.C.Codec.read_once s.codec) (g.met.P.C.Codec.read_back s.codec) _ _ _ (kept.main told) reads)
-
--- all that the step gives
+-- all that the step gives where no death ends the call
 gives : (g : _) (c : goal.After-work g)
-    → StepGives g.P.C.Codec g.P.T.Transform g.P.F.Folder c.args.self.now.origin (state_seen c.args.self.now.state) (state_seen c.work.new.self.state) (shelf_seen c.args.shelf.now) (shelf_seen c.work.new.shelf) c.requires.may c.args.shelf.now.ledger.no_deaths (truly g c) c.args.shelf.now.ledger.quiet c.requires.running (replied c.work.result)
+    → StepGives g.P.C.Codec g.P.T.Transform g.P.F.Folder c.args.self.now.origin (state_seen c.args.self.now.state) (state_seen c.work.new.self.state) (shelf_seen c.args.shelf.now) (shelf_seen c.work.new.shelf) c.requires.may
+    (reads_truly c.args.shelf.now g.row.P-C-Value.coded (g.met.P.C.Codec.read_once c.args.shelf.now.codec) (g.met.P.C.Codec.read_back c.args.shelf.now.codec)) c.args.shelf.now.ledger.quiet c.requires.running (replied c.work.result)
 gives g c =
     let s = c.args.shelf.now in
-    let steps = rw (origin_is g c.before, c.begin-2.ensures.state, c.begin.ensures.same) at c.work.ensures.steps in
+    let on : LivesOn c.args.self.now.origin.call (step_at true (state_seen c.args.self.now.state)) c.args.self.now.origin.since (shelf_seen s) (shelf_seen c.begin-death.new.self) = rw (← c.step_where.ensures) c.in_default.ensures in
+    let origin : c.begin.new.self.origin ≡ begun c.args.self.now.origin (length s.ledger.journal.list) = begun_is c.args.self.now.origin _ _ _ _ c.begin.ensures.origin c.len-entries.ensures c.journal.ensures in
+    let steps = rw (origin, c.begin.ensures.state, on.same) at c.work.ensures.steps in
     let spares : is_holding (state_seen c.args.self.now.state) ≡ false → SparesRoom g.P.C.Codec g.P.T.Transform g.P.F.Folder c.args.self.now.origin (shelf_seen s) (shelf_seen c.work.new.shelf) =
     λ free.
-    waits_spare g.P.C.Codec g.P.T.Transform g.P.F.Folder c.args.self.now.origin _ _ (shelf_seen s) (shelf_seen c.work.new.shelf) c.requires.may s.ledger.no_deaths (truly g c) s.ledger.quiet c.requires.running (replied c.work.result) steps
+    waits_spare g.P.C.Codec g.P.T.Transform g.P.F.Folder c.args.self.now.origin _ _ (shelf_seen s) (shelf_seen c.work.new.shelf) c.requires.may
+    (reads_truly s g.row.P-C-Value.coded (g.met.P.C.Codec.read_once s.codec) (g.met.P.C.Codec.read_back s.codec)) s.ledger.quiet c.requires.running on.lives on.unplanned (replied c.work.result) steps
     (update_locks _ c.args.self.now.state c.requires.running free)
     in
-    step_gives g.P.C.Codec g.P.T.Transform g.P.F.Folder c.args.self.now.origin _ _ (shelf_seen s) (shelf_seen c.work.new.shelf) c.requires.may s.ledger.no_deaths (truly g c) s.ledger.quiet c.requires.running (replied c.work.result) steps spares
+    step_gives g.P.C.Codec g.P.T.Transform g.P.F.Folder c.args.self.now.origin _ _ (shelf_seen s) (shelf_seen c.work.new.shelf) c.requires.may _ s.ledger.quiet c.requires.running on.lives on.unplanned (replied c.work.result) steps spares
 
 pub returns-clause-steps : goal.returns-clause-steps
-returns-clause-steps g c = rw (c.work.ensures.origin, origin_is g c.before) (gives g c).steps
+returns-clause-steps g c =
+    let origin : c.begin.new.self.origin ≡ begun c.args.self.now.origin (length c.args.shelf.now.ledger.journal.list) = begun_is c.args.self.now.origin _ _ _ _ c.begin.ensures.origin c.len-entries.ensures c.journal.ensures in
+    rw (c.work.ensures.origin, origin) (gives g c).steps
 
 pub returns-clause-current : goal.returns-clause-current
-returns-clause-current g c = λ told. rw (c.work.ensures.published, c.begin-2.ensures.state) ((gives g c).current told)
+returns-clause-current g c = λ told. rw (c.work.ensures.published, c.begin.ensures.state) ((gives g c).current told)
 
 pub returns-clause-kept : goal.returns-clause-kept
 returns-clause-kept g c = λ told. ∥∥₁_map c.work.new.shelf.kept (λ kept. kept.main told)
@@ -65,3 +57,36 @@ returns-clause-quiet g c = c.work.new.shelf.ledger.quiet
 
 pub returns-clause-shown : goal.returns-clause-shown
 returns-clause-shown g c = λ edit so. (gives g c).shown (Update edit) so
+
+-- and where one does
+died : (g : _) (c : goal.After-die g)
+    → StepGives g.P.C.Codec g.P.T.Transform g.P.F.Folder c.args.self.now.origin (state_seen c.args.self.now.state) Gone (shelf_seen c.args.shelf.now) (shelf_seen c.begin-death.new.self) c.requires.may
+    (reads_truly c.args.shelf.now g.row.P-C-Value.coded (g.met.P.C.Codec.read_once c.args.shelf.now.codec) (g.met.P.C.Codec.read_back c.args.shelf.now.codec)) c.args.shelf.now.ledger.quiet c.requires.running (Ended (Failed (Died c.in-Some.at)))
+died g c =
+    let s = c.args.shelf.now in
+    let row : BeginRow c.args.self.now.origin.call (step_at true (state_seen c.args.self.now.state)) c.args.self.now.origin.since (Some c.in-Some.at) (shelf_seen s) (shelf_seen c.begin-death.new.self) = rw (← c.step_where.ensures) c.in-Some.ensures in
+    gives_of g.P.C.Codec g.P.T.Transform g.P.F.Folder c.args.self.now.origin _ Gone (shelf_seen s) (shelf_seen c.begin-death.new.self) c.requires.may _ s.ledger.quiet c.requires.running _
+    (dead_steps g.P.C.Codec g.P.T.Transform g.P.F.Folder c.args.self.now.origin _ (shelf_seen s) (shelf_seen c.begin-death.new.self) c.requires.running c.in-Some.at row)
+
+pub returns-in-Some-clause-steps : goal.returns-in-Some-clause-steps
+returns-in-Some-clause-steps g c =
+    let origin : c.begin.new.self.origin ≡ begun c.args.self.now.origin (length c.args.shelf.now.ledger.journal.list) = begun_is c.args.self.now.origin _ _ _ _ c.begin.ensures.origin c.len-entries.ensures c.journal.ensures in
+    rw (c.die.ensures.answer, c.die.ensures.state, c.die.ensures.origin, origin) (died g c).steps
+
+pub returns-in-Some-clause-published : goal.returns-in-Some-clause-published
+returns-in-Some-clause-published g c = rw (c.die.ensures.answer, c.die.ensures.state) (sym (dead_publishes (state_seen c.args.self.now.state) c.in-Some.at _))
+
+pub returns-in-Some-clause-current : goal.returns-in-Some-clause-current
+returns-in-Some-clause-current g c = λ told. rw c.die.ensures.state tt
+
+pub returns-in-Some-clause-kept : goal.returns-in-Some-clause-kept
+returns-in-Some-clause-kept g c = λ told. ∥∥₁_map c.begin-death.new.self.kept (λ kept. kept.main told)
+
+pub returns-in-Some-clause-quiet : goal.returns-in-Some-clause-quiet
+returns-in-Some-clause-quiet g c = c.begin-death.new.self.ledger.quiet
+
+pub returns-in-Some-clause-shown : goal.returns-in-Some-clause-shown
+returns-in-Some-clause-shown g c = λ edit so. rw c.die.ensures.answer ((died g c).shown (Update edit) so)
+
+pub returns-in-Some-clause-number : goal.returns-in-Some-clause-number
+returns-in-Some-clause-number g c = c.requires.number ∙ sym (dead_raises _ _ (shelf_seen c.args.shelf.now) (shelf_seen c.begin-death.new.self) _ c.in-Some.at c.in-Some.ensures)

@@ -17,5 +17,5 @@ returns-clause-keeps c =
     let client = c.index_mut.result.now in
     let found = slice_get_read old.clients.items (vec_len old.clients) c.args.place client old.clients.ok.0 c.requires.within c.index_mut.ensures.value in
     both_ok c.ask.result c.ask.ensures.same c.ask.ensures.asked (λ same asked.
-    let keeps = asking_keeps old c.args.place client c.ask.new.self c.args.task found same asked c.requires.keeps in
-    record { state = keeps.state; number = keeps.number; nodes = keeps.nodes; equipped = keeps.equipped })
+    let keeps = asking_keeps old c.args.place client c.ask.new.self c.args.task found same asked c.requires.keeps c.requires.named in
+    record { state = keeps.state; number = keeps.number; nodes = keeps.nodes; places = keeps.places; named = keeps.named; equipped = keeps.equipped })

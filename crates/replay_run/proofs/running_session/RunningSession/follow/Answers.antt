@@ -35,7 +35,8 @@ follow_line-requires-clause-line c =
     let old = c.args.self.now in
     let line = c.line-item.result in
     let found = slice_get_read c.args.lines.now (length c.args.lines.now) c.loop-line.line-index line refl c.loop-line-test.true c.line-item.is in
-    subst (λ n. CanFollow n line) (sym c.loop-line.invariant.clients) (all_found (CanFollow (vec_len old.clients)) c.args.lines.now c.loop-line.line-index line found c.requires.lines)
+    let can = all_found (CanFollow (vec_len old.clients) (store_in old.shelf).nodes) c.args.lines.now c.loop-line.line-index line found c.requires.lines in
+    subst (λ (s : PrefStore). CanFollow (vec_len c.loop-line.self.clients) s.nodes line) (sym c.loop-line.invariant.store) (subst (λ n. CanFollow n (store_in old.shelf).nodes line) (sym c.loop-line.invariant.clients) can)
 
 pub returns-in_err-follow_line-clause-store : goal.returns-in_err-follow_line-clause-store
 returns-in_err-follow_line-clause-store c = c.follow_line.ensures.store ∙ c.loop-line.invariant.store

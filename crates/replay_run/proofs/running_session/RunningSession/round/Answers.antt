@@ -16,7 +16,7 @@ loop-place-init c =
     let old = c.args.self.now in
     record {
       steps = each_none (rules_in old.shelf) (store_in old.shelf) 0 (state_in old);
-      so_far = round_begins (rules_in old.shelf) (store_in old.shelf) refl (state_in old);
+      so_far = round_begins (rules_in old.shelf) (store_in old.shelf) (state_in old);
       on = record { keeps = c.requires.keeps; store = refl; asked = refl };
     }
 
@@ -46,7 +46,7 @@ loop-place-preserved c =
     let keeps = subst (λ (s : PrefStore). RunInvariant (rules_in old.shelf) s (state_in mid)) it.on.store it.on.keeps.state in
     record {
       steps = each_more (rules_in old.shelf) (store_in old.shelf) c.loop-place.place (state_in old) (state_in mid) (state_in new) it.steps step;
-      so_far = round_goes_on (rules_in old.shelf) (store_in old.shelf) refl (state_in old) c.loop-place.place (state_in mid) (state_in new) step keeps it.so_far;
+      so_far = round_goes_on (rules_in old.shelf) (store_in old.shelf) (state_in old) c.loop-place.place (state_in mid) (state_in new) step keeps it.so_far;
       on = record { keeps = c.in_ok-go.ensures.keeps; store = c.go.ensures.store ∙ it.on.store; asked = c.go.ensures.asked ∙ it.on.asked };
     }
 
@@ -65,7 +65,7 @@ returns-clause-round c =
 pub returns-clause-falls : goal.returns-clause-falls
 returns-clause-falls c =
     let old = c.args.self.now in
-    round_falls (rules_in old.shelf) (store_in old.shelf) refl (state_in old) (state_in c.loop-place.self) c.requires.keeps.state
+    round_falls (rules_in old.shelf) (store_in old.shelf) (state_in old) (state_in c.loop-place.self) c.requires.keeps.state
     (subst (λ n. RoundSoFar (store_in old.shelf).limits.file (state_in old) n (state_in c.loop-place.self)) (all_went c) c.loop-place.invariant.so_far)
 
 pub returns-clause-keeps : goal.returns-clause-keeps

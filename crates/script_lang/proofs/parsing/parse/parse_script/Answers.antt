@@ -1,4 +1,6 @@
-use Rattle.std.proofs.Common.{sym, ◌∙◌}
+use Rattle.std.proofs.Common.{sym, subst, ◌∙◌}
+use Rattle.script_lang.specs.Draft.{HasHomes}
+use Rattle.script_lang.proofs.GrowthLemmas.{draft_has_homes}
 use Rattle.script_lang.proofs.KeepsLemmas.{script_keeps}
 use Rattle.script_lang.proofs.ReadSoFar.{all_read, read_more}
 use Rattle.script_lang.proofs.TestLemmas.{nothing_left}
@@ -16,3 +18,6 @@ returns-clause-ok c =
 
 pub returns-clause-keeps : goal.returns-clause-keeps
 returns-clause-keeps c = script_keeps c.args.mode c.args.bytes.now c.in-Ok.script (returns-clause-ok c)
+
+pub next_draft-requires : goal.next_draft-requires
+next_draft-requires c = subst HasHomes (sym c.loop-rest.invariant.drafted) (draft_has_homes c.args.mode c.loop-rest.invariant.said)

@@ -12,7 +12,7 @@ returns-in_err-text c =
     rw (p.1, p.2) (fails_tests c.args.draft.now c.args.number c.args.line.now c.in_err-text.field-0.0 c.in_err-text.ensures)
 
 pub read_words-requires : goal.read_words-requires
-read_words-requires c = some_text _ c.in_ok-text.text.now (rw c.deref.ensures.value c.in_ok-words.ensures)
+read_words-requires c = record { some = some_text _ c.in_ok-text.text.now (rw c.deref.ensures.value c.in_ok-words.ensures); homes = c.requires }
 
 pub returns : goal.returns
 returns c =

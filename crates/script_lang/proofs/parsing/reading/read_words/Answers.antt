@@ -10,7 +10,7 @@ returns-in-Some c =
     let behind = texts_at (take (length words - 1) (drop 1 words)) in
     record {
       row = keyword c.in-Some.word behind;
-      is = first_text words c.requires ∙ ap (λ (first : List ℕ). first ∷ behind) c.in-Some.ensures.some;
+      is = first_text words c.requires.some ∙ ap (λ (first : List ℕ). first ∷ behind) c.in-Some.ensures.some;
       reads = c.read_row.ensures;
     }
 
@@ -20,6 +20,6 @@ returns-in-None c =
     let behind = texts_at (take (length words - 1) (drop 1 words)) in
     record {
       row = call (get_or words 0 no_word).now behind;
-      is = (first_text words c.requires, c.in-None.ensures.none);
+      is = (first_text words c.requires.some, c.in-None.ensures.none);
       reads = c.read_call.ensures;
     }

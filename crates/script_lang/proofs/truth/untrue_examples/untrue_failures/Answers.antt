@@ -23,5 +23,8 @@ returns c =
     record {
       death_unplanned = broken G8 example.two_nodes (example.told untrue.death_unplanned) refl;
       death_left_out = broken G8 untrue.death_left_out (example.told example.two_nodes_told) refl;
+      first_death_left_out = broken G8 untrue.first_death_left_out (example.told example.two_nodes_told) refl;
+      death_planned_writing = broken G8 untrue.death_planned_writing (example.told untrue.death_unplanned) refl;
+      death_planned_raising = broken G8 untrue.death_planned_raising (example.told untrue.death_behind_raise) refl;
       fault_unplanned = broken G8 untrue.fault_unplanned (example.told example.sync_failed_told) refl;
     }

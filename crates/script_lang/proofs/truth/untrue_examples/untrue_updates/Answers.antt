@@ -24,5 +24,7 @@ returns c =
       edition_too_high = broken G3 example.two_nodes (example.told untrue.edition_too_high) refl;
       synced_left_out = broken G3 example.two_nodes (example.told untrue.synced_left_out) refl;
       edits_exchanged = broken G3 example.two_sets (example.told untrue.edits_exchanged) refl;
+      restart_denied = broken G3 example.restart (example.told untrue.restart_denied) refl;
+      restarted_another = broken G3 untrue.restart_of_the_first (example.told untrue.restarted_another) refl;
       restarted_elsewhere = broken G3 example.restart (example.told untrue.restarted_elsewhere) refl;
     }

@@ -1,5 +1,6 @@
 use Rattle.std.proofs.Common.{arith, sym, ap, ◌∙◌, ◌+◌}
-use Rattle.shelf.proofs.LedgerLemmas.{editions, editions_fit, quiet_own, ready_other, no_deaths_on, inner_marks_nothing, inner_kills_nothing}
+use Rattle.shelf.proofs.DeathLemmas.{unmarked_lives}
+use Rattle.shelf.proofs.LedgerLemmas.{dead_other, editions, editions_fit, inner_kills_nothing, inner_marks_nothing, last_other, quiet_own, ready_other}
 use Rattle.shelf.proofs.ledger.Ledger.add.Goals as goal
 
 pub overflow_add-self : goal.overflow_add-self
@@ -16,5 +17,6 @@ invariant_of-self g c =
       counts_editions = ap (λ n. n + c.editions_of-editions.result) l.counts_editions ∙ sym (editions _ _ _ is _ c.editions_of-editions.ensures);
       quiet = quiet_own _ _ _ is _ l.quiet c.requires.owner;
       ready = ready_other _ _ _ is _ l.ready (inner_marks_nothing _ c.requires.kind);
-      no_deaths = no_deaths_on _ _ _ is l.no_deaths (inner_kills_nothing _ c.requires.kind);
+      dead = dead_other _ _ _ is _ l.dead (inner_kills_nothing _ c.requires.kind);
+      last = last_other _ _ _ is _ l.last (λ node. unmarked_lives node _ (inner_kills_nothing _ c.requires.kind node));
     }

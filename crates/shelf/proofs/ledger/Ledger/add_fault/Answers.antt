@@ -1,6 +1,6 @@
 use Rattle.std.proofs.Common.{arith, sym, refl, ◌∙◌}
 use Rattle.shelf.proofs.Bools.{never}
-use Rattle.shelf.proofs.LedgerLemmas.{freed_room_other, other_edition, fault_ends, quiet_ended, quiet_other, ready_other, no_deaths_on}
+use Rattle.shelf.proofs.LedgerLemmas.{freed_room_other, other_edition, fault_ends, quiet_ended, quiet_other, dead_other, last_other, ready_other}
 use Rattle.shelf.proofs.ledger.Ledger.add_fault.Goals as goal
 
 pub invariant_of-self : goal.invariant_of-self
@@ -14,7 +14,8 @@ invariant_of-self g c =
       counts_editions = l.counts_editions ∙ sym (other_edition _ _ _ is refl);
       quiet = λ call open_now. c.release.ensures ∙ quiet_ended _ _ _ is _ l.quiet own refl (fault_ends g.row.V.Denot g.row.T.Denot c.args.call c.args.count) call open_now;
       ready = ready_other _ _ _ is _ l.ready (λ node. refl);
-      no_deaths = no_deaths_on _ _ _ is l.no_deaths refl;
+      dead = dead_other _ _ _ is _ l.dead (λ node. refl);
+      last = last_other _ _ _ is _ l.last (λ node. refl);
     }
 
 pub invariant_of-self-else-is_owner : goal.invariant_of-self-else-is_owner
@@ -28,5 +29,6 @@ invariant_of-self-else-is_owner g c =
       counts_editions = l.counts_editions ∙ sym (other_edition _ _ _ is refl);
       quiet = quiet_other _ _ _ is _ l.quiet refl;
       ready = ready_other _ _ _ is _ l.ready (λ node. refl);
-      no_deaths = no_deaths_on _ _ _ is l.no_deaths refl;
+      dead = dead_other _ _ _ is _ l.dead (λ node. refl);
+      last = last_other _ _ _ is _ l.last (λ node. refl);
     }

@@ -1,5 +1,5 @@
 use Rattle.std.proofs.Common.{arith, refl, ◌≡◌, []}
-use Rattle.shelf.proofs.LedgerLemmas.{no_editions, no_raise, no_nodes}
+use Rattle.shelf.proofs.LedgerLemmas.{no_editions, no_raise, none_dead_yet, none_died_yet, none_ready}
 use Rattle.shelf.proofs.ledger.Ledger.new.Goals as goal
 
 pub invariant_of-result : goal.invariant_of-result
@@ -10,6 +10,7 @@ invariant_of-result g c =
       weight_fits = rw c.new.ensures (omega arith);
       counts_editions = no_editions _ is;
       quiet = λ call open_now. no_raise _ is call open_now;
-      ready = λ node. no_nodes _ is node _ c.new-3.ensures;
-      no_deaths = rw c.new.ensures refl;
+      ready = λ node. none_ready _ is node _ c.new-3.ensures;
+      dead = λ node. none_dead_yet _ is node _ c.new-3.ensures;
+      last = λ node. none_died_yet _ is node _ c.new-3.ensures;
     }

@@ -1,12 +1,10 @@
 use Rattle.std.proofs.Common.{sym}
-use Rattle.shelf.proofs.NodeStateLemmas.{ids-made_ready, has_ready-made_ready, none_is_found}
+use Rattle.shelf.specs.NodeStates.{initialised}
+use Rattle.shelf.proofs.NodeStateLemmas.{changed_at, unchanged}
 use Rattle.shelf.proofs.node_table.NodeTable.make_ready.Goals as goal
 
-pub returns-in-Some-clause-nodes : goal.returns-in-Some-clause-nodes
-returns-in-Some-clause-nodes c = ids-made_ready c.args.node _ _ _ _ c.self.view_is (sym c.in-Some.ensures) c.index_mut.ensures.value
+pub returns-in-Some : goal.returns-in-Some
+returns-in-Some c = changed_at c.args.node initialised _ _ _ _ c.self.view_is (sym c.in-Some.ensures) c.index_mut.ensures.value
 
-pub returns-in-Some-clause-ready : goal.returns-in-Some-clause-ready
-returns-in-Some-clause-ready c = has_ready-made_ready c.args.node _ _ _ _ c.self.view_is (sym c.in-Some.ensures) c.index_mut.ensures.value
-
-pub returns-in_default-clause-ready : goal.returns-in_default-clause-ready
-returns-in_default-clause-ready c = none_is_found c.args.node c.args.self.now (sym c.in_default.ensures) c.requires
+pub returns-in_default : goal.returns-in_default
+returns-in_default c = unchanged c.args.node initialised c.args.self.now (sym c.in_default.ensures)

@@ -11,4 +11,4 @@ pub invariant_of-self : goal.invariant_of-self
 unfolding kind_weight
 invariant_of-self g c =
     let s = c.args.self.now in
-    record { low_limit = s.low_limit; kept = kept_kinds _ _ _ _ _ _ _ _ _ s.ledger c.finish_init.new.self _ _ _ _ _ c.finish_init.ensures (untouched _ _ (g.P.F.Folder.tally s.folder)) refl c.requires.lawful refl s.kept }
+    record { low_limit = s.low_limit; kept = kept_kinds _ _ _ _ _ _ _ _ _ _ s.ledger c.finish_init.new.self _ _ _ _ _ c.finish_init.ensures (untouched _ _ (g.P.F.Folder.tally s.folder)) refl c.requires.lawful refl s.kept }

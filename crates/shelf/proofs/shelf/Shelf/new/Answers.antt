@@ -8,7 +8,7 @@ invariant_of-result g c =
     record {
       low_limit = c.requires.limit;
       kept =
-          kept_new _ _ _ (g.P.F.Folder.contents c.args.folder) _ (g.P.F.Folder.tally c.args.folder) (g.P.F.Folder.tally c.start.new.self) _ _ c.new.result
+          kept_new _ _ _ (g.P.F.Folder.contents c.args.folder) _ (g.P.F.Folder.tally c.args.folder) (g.P.F.Folder.tally c.start.new.self) _ _ _ c.new.result
           (ap (λ l. l.list) is)
           (ap (λ l. l.weight) is)
           c.start.ensures.contents

@@ -8,7 +8,7 @@ pub invariant_of-self-in-Ok-1 : goal.invariant_of-self-in-Ok-1
 invariant_of-self-in-Ok-1 g c =
     let s = c.args.self.now in
     let call = c.in-Ok.ensures in
-    record { low_limit = s.low_limit; kept = kept_still _ _ _ _ _ _ _ _ _ s.ledger c.make_room.new.self (equal_stays _ _ _ _ _ _ _ call.tally call.contents) c.make_room.ensures.same s.kept }
+    record { low_limit = s.low_limit; kept = kept_still _ _ _ _ _ _ _ _ _ _ s.ledger c.make_room.new.self (equal_stays _ _ _ _ _ _ _ call.tally call.contents) c.make_room.ensures.same s.kept }
 
 pub invariant_of-self-in-Err-Failed : goal.invariant_of-self-in-Err-Failed
 invariant_of-self-in-Err-Failed g c =
@@ -17,20 +17,20 @@ invariant_of-self-in-Err-Failed g c =
     let entry = rw c.make_room.ensures.same at c.add_fault.ensures.entry in
     record {
       low_limit = s.low_limit;
-      kept = kept_fault _ _ _ _ _ _ _ _ _ s.ledger c.add_fault.new.self _ _ _ _ entry (equal_stays _ _ _ _ _ _ _ call.tally call.contents) c.faults.ensures.count (rw c.in-Err-Failed.field-0-is at call.tally.counts.cause) c.requires.lawful s.kept;
+      kept = kept_fault _ _ _ _ _ _ _ _ _ _ s.ledger c.add_fault.new.self _ _ _ _ entry (equal_stays _ _ _ _ _ _ _ call.tally call.contents) c.faults.ensures.count (rw c.in-Err-Failed.field-0-is at call.tally.counts.cause) c.requires.lawful s.kept;
     }
 
 pub invariant_of-self-in-TooLong-1 : goal.invariant_of-self-in-TooLong-1
 invariant_of-self-in-TooLong-1 g c =
     let s = c.args.self.now in
     let call = c.in-Err-TooLong.ensures in
-    record { low_limit = s.low_limit; kept = kept_still _ _ _ _ _ _ _ _ _ s.ledger c.make_room.new.self (equal_stays _ _ _ _ _ _ _ (rw c.in-Err-TooLong.field-0-is at call.tally) call.contents) c.make_room.ensures.same s.kept }
+    record { low_limit = s.low_limit; kept = kept_still _ _ _ _ _ _ _ _ _ _ s.ledger c.make_room.new.self (equal_stays _ _ _ _ _ _ _ (rw c.in-Err-TooLong.field-0-is at call.tally) call.contents) c.make_room.ensures.same s.kept }
 
 pub invariant_of-self-in-Err-NoMemory : goal.invariant_of-self-in-Err-NoMemory
 invariant_of-self-in-Err-NoMemory g c =
     let s = c.args.self.now in
     let call = c.in-Err-NoMemory.ensures in
-    record { low_limit = s.low_limit; kept = kept_still _ _ _ _ _ _ _ _ _ s.ledger c.make_room.new.self (equal_stays _ _ _ _ _ _ _ (rw c.in-Err-NoMemory.field-0-is at call.tally) call.contents) c.make_room.ensures.same s.kept }
+    record { low_limit = s.low_limit; kept = kept_still _ _ _ _ _ _ _ _ _ _ s.ledger c.make_room.new.self (equal_stays _ _ _ _ _ _ _ (rw c.in-Err-NoMemory.field-0-is at call.tally) call.contents) c.make_room.ensures.same s.kept }
 
 pub returns-in-Ok-clause-value : goal.returns-in-Ok-clause-value
 returns-in-Ok-clause-value g c =
