@@ -40,7 +40,9 @@ pub fn run(rt: &HostRuntime) -> Result<()> {
 fn planned(alloc: Global) -> Result<String, AllocError> {
     let mut text = String::new(alloc);
     for call in 1..=CALLS {
-        let lines = format!(in alloc; "die a {call} P1\ndie b {call} P2\ndie b {call} P1\ndie a {call} P2\n")?;
+        let lines = format!(in alloc;
+            "die a {call} P1\ndie b {call} P2\ndie b {call} P1\ndie a {call} P2\n"
+        )?;
         text.push_str(lines.as_str())?;
     }
     Ok(text)
@@ -50,7 +52,9 @@ fn planned(alloc: Global) -> Result<String, AllocError> {
 fn deadly(alloc: Global, deaths: u32) -> Result<String, AllocError> {
     let mut text = String::from_str(alloc, "node n1\nnode n2\nclient a on n1\nclient b on n2\n")?;
     for call in 1..=deaths {
-        let lines = format!(in alloc; "die a {call} U6\na update addint \"k\" 1\ngo a 11\nb restart n1\ngo b 1\n")?;
+        let lines = format!(in alloc;
+            "die a {call} U6\na update addint \"k\" 1\ngo a 11\nb restart n1\ngo b 1\n"
+        )?;
         text.push_str(lines.as_str())?;
     }
     Ok(text)

@@ -37,13 +37,14 @@ fn dies_and_comes_back<P: Parts>(alloc: Global, shelf: &mut Shelf<P>, edits: (P:
 }
 
 /// Whether the first update ends by the death before this step, as the entry of this number, and all goes on behind it.
-fn dies_before(alloc: Global, step: Step, at: u64, told: &str) -> Option<bool> {
+fn dies_before(alloc: Global, step: Step, at: u32, told: &str) -> Option<bool> {
     let edits = (set(alloc, "k", 1)?, set(alloc, "k", 2)?);
     let mut shelf = with_death(alloc, A, step)?;
     if !join(alloc, &mut shelf) {
         return None;
     }
     let went = dies_and_comes_back::<Prefs>(alloc, &mut shelf, edits);
+    let at = u64::from(at);
     let is_dead = went.first == Err(UpdateError::Died { at });
     let is_back = went.restarted == Ok(at + 1);
     let is_back_once = went.restarted_twice == Err(RestartError::NotDead);

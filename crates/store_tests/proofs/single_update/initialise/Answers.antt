@@ -1,3 +1,4 @@
+use Rattle.std.proofs.Common.{refl}
 use Rattle.node_core.proofs.DyingFits.{new_death_fits}
 use Rattle.store_tests.proofs.GoingLemmas.{first_is_new}
 use Rattle.store_tests.proofs.single_update.initialise.Goals as goal
