@@ -1,9 +1,11 @@
 use Rattle.std.proofs.Common.{refl}
+use Rattle.hist_journal.specs.Nodes.{is_dead, last_mark}
 use Rattle.node_core.proofs.DyingFits.{new_death_fits}
 use Rattle.store_tests.proofs.GoingLemmas.{first_is_new}
 use Rattle.store_tests.proofs.single_update.initialise.Goals as goal
 
 -- nothing was told yet, so a Death of the node would fit
+unfolding is_dead, last_mark
 pub begin-requires-clause-lawful : goal.begin-requires-clause-lawful
 begin-requires-clause-lawful g c =
     λ told lives.
