@@ -5,8 +5,8 @@ use Rattle.store_tests.proofs.GoingLemmas.{first_is_new}
 use Rattle.store_tests.proofs.single_update.initialise.Goals as goal
 
 -- nothing was told yet, so a Death of the node would fit
-unfolding is_dead, last_mark
 pub begin-requires-clause-lawful : goal.begin-requires-clause-lawful
+unfolding is_dead last_mark
 begin-requires-clause-lawful g c =
     λ told lives.
     let new = first_is_new c.args.call c.args.shelf.now.ledger.journal.list c.requires.fresh in
